@@ -1,5 +1,5 @@
 ghost use mathlib.Core.Path.{_≡_};
-ghost use Rattle.tlv.specs.Faults.{ofEntry, ofPayload};
+ghost use Rattle.tlv.specs.Faults.{ofEntry, ofPayload, ofReason};
 use reason::Reason;
 
 // What the entry reader found: why, and the offset of the entry's type byte.
@@ -45,5 +45,14 @@ pub impl From<PayloadFault> for CallFault as CallFromPayload {
                 place: e.place,
             },
         }
+    }
+}
+
+// A reason that is not about an entry has no place of its own.
+pub impl From<Reason> for CallFault as CallFromReason {
+    ghost converts = { λ r c. c ≡ ofReason r };
+
+    fn from(reason: Reason) -> CallFault {
+        CallFault { reason, place: 0 }
     }
 }

@@ -11,6 +11,7 @@ pub use entries::entry_at;
 pub use entries::value;
 pub use fault::CallFault;
 pub use fault::CallFromPayload;
+pub use fault::CallFromReason;
 pub use fault::EntryFault;
 pub use fault::PayloadFault;
 pub use fault::PayloadFromEntry;

@@ -1,10 +1,4 @@
-// The shortest form of a payload.
-ghost use mathlib.Core.Path.{_≡_};
-ghost use Rattle.tlv_shortest.specs.Items.{items};
-ghost use Rattle.tlv_shortest.specs.Shortest.{Shortest, shortestAnswer};
+// The shortest form of a payload: the same entries, each header as short as it can be.
+mod form;
 
-pub fn one() -> u8
-    ensures { λ r. ⌜ r ≡ 1 ⌝ }
-{
-    1
-}
+pub use form::shortest_form;
