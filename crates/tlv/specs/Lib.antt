@@ -1,4 +1,5 @@
 pub mod Header
 pub mod Entries
+pub mod Walk
 pub mod Faults
 pub mod Grammar

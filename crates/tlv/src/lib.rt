@@ -5,6 +5,7 @@ mod fault;
 mod grammar;
 mod header;
 mod limit;
+mod walk;
 
 pub use entries::Entry;
 pub use entries::entry_at;
@@ -23,3 +24,5 @@ pub use header::Header;
 pub use header::Kind;
 pub use header::read_header;
 pub use header::short_header;
+pub use walk::Entries;
+pub use walk::EntriesIterator;
