@@ -12,12 +12,14 @@ use Rattle.tlv.specs.declared.header.Header.{Header}
 use Rattle.tlv.specs.declared.entries.Entry.{Entry}
 use Rattle.tlv.specs.Header.{readHeader}
 
+-- the entry whose header lies at `at`: its value is what follows the header
+abbrev pub placedAt : ℕ → Header → Entry
+placedAt at h = record { kind = h .kind; id = h .id; place = at; from = at + h .size; to = at + h .size + h .len }
+
 -- the entry of a header at `at` in a container that ends at `end`, which its value may not pass
 abbrev pub located : ℕ → ℕ → Option Header → Option Entry
 located at end None = None
-located at end (Some h) =
-    cond (leb (at + h .size + h .len) end)
-    (Some (record { kind = h .kind; id = h .id; place = at; from = at + h .size; to = at + h .size + h .len })) None
+located at end (Some h) = cond (leb (at + h .size + h .len) end) (Some (placedAt at h)) None
 
 -- the entry at `at` of bytes `bs`; its value is what lies from `from` to `to` in the same bytes
 unfoldable pub entryAt : List ℕ → ℕ → ℕ → Option Entry

@@ -1,5 +1,5 @@
 ghost use mathlib.Core.Path.{_≡_};
-ghost use Prim.Native.Nat.{_≤_};
+ghost use Prim.Native.Nat.{_+_, _*_, _≤_};
 ghost use Rattle.std.specs.Vec.{made};
 ghost use Rattle.tlv.specs.Header.{kindNumber, kindOf, headerAnswer, readLength, readHeader};
 use reason::Reason;
@@ -91,15 +91,20 @@ fn read_length(t: u8, id: u16, used: usize, rest: &[u8]) -> Option<Header>
     })
 }
 
+// An identifier of two bytes, high byte first.
+fn wide_id(hi: u8, lo: u8) -> u16
+    ensures { λ r. ⌜ r ≡ hi * 256 + lo ⌝ }
+{
+    hi as u16 * 256 + lo as u16
+}
+
 // The header that `s` begins with, in any form; None where `s` ends within it.
 pub fn read_header(s: &[u8]) -> Option<Header>
     ensures { λ r. ⌜ r ≡ readHeader (now (s .entry)) ⌝ }
 {
     match s {
         [t, id, rest @ ..] if *t / 32 % 2 == 0 => read_length(*t, *id as u16, 2, rest),
-        [t, hi, lo, rest @ ..] if *t / 32 % 2 == 1 => {
-            read_length(*t, *hi as u16 * 256 + *lo as u16, 3, rest)
-        }
+        [t, hi, lo, rest @ ..] if *t / 32 % 2 == 1 => read_length(*t, wide_id(*hi, *lo), 3, rest),
         _ => None,
     }
 }

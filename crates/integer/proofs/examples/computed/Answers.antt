@@ -1,0 +1,5 @@
+use Rattle.integer.proofs.Worked.{worked}
+use Rattle.integer.proofs.examples.computed.Needs as need
+
+pub returns : need.returns
+returns c = worked

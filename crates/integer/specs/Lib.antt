@@ -1,0 +1,5 @@
+pub mod Integer
+pub mod Laws
+pub mod Steps
+pub mod Held
+pub mod Worked

@@ -1,0 +1,10 @@
+pub mod Bytes
+pub mod Shorts
+pub mod Headers
+pub mod Regions
+pub mod Readings
+pub mod Filled
+pub mod Back
+pub mod Same
+pub mod Examples
+pub mod Answered

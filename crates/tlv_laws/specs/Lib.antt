@@ -1,0 +1,4 @@
+pub mod Headers
+pub mod Fills
+pub mod Forms
+pub mod Worked
