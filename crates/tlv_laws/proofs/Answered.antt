@@ -17,8 +17,11 @@ use Rattle.tlv.specs.declared.fault.PayloadFault.{PayloadFault}
 use Rattle.tlv.specs.Faults.{ofReason}
 use Rattle.tlv.specs.Grammar.{verdict}
 use Rattle.tlv_writer.specs.Write.{padded}
-use Rattle.tlv_shortest.specs.Shortest.{Shortest, shortestForm, formAnswer, shortestAnswer}
-use Rattle.tlv_laws.specs.Forms.{Written-same}
+use Rattle.tlv_shortest.specs.Shortest.{Shortest, shortestForm, formAnswer, shortestAnswer, shortestLeaves}
+use Rattle.std.specs.Vec.{made}
+use Rattle.tlv_laws.specs.Forms.{Written, Written-same}
+use Rattle.tlv_laws.proofs.Back.{reads-back}
+use Rattle.tlv_laws.proofs.Same.{rewrites-same}
 use Rattle.tlv_laws.specs.Headers.{Bytes}
 
 pub record Answered (room n : ℕ) (bs : List ℕ) : Type 0 where
@@ -52,3 +55,11 @@ front-is room n bs out l w =
 -- being its own shortest form decides whether a payload is in shortest form
 pub shortest-told : (b : Bool) (bs front : List ℕ) → Written-same bs → front ≡ shortestForm bs → Decides b (front ≡ bs) → Decides b (Shortest bs)
 shortest-told b bs front w e d = (λ t. w .only (sym e ∙ d .0 t), λ s. d .1 (e ∙ w .stays s))
+
+-- what is told of a form that was written, or of one that was refused
+pub written-law : (r : Result ℕ CallFault) (room : ℕ) (bs out : List ℕ) → Bytes bs → r ≡ shortestAnswer room bs → out ≡ shortestLeaves r room bs
+    → made r (Written room bs out)
+written-law (Ok n) room bs out b a w =
+    let k = answered room n bs a in
+    record { holds = w; long = k .long; fits = k .fits; back = reads-back bs b (k .well); same = rewrites-same bs b (k .well) }
+written-law (Err e) room bs out b a w = tt

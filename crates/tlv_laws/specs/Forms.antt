@@ -7,6 +7,7 @@ use Rattle.std.specs.declared.result.Result.{Result}
 use Rattle.std.specs.declared.result.Result.the-variants.{Ok, Err}
 use Rattle.tlv.specs.declared.fault.CallFault.{CallFault}
 use Rattle.tlv.specs.Grammar.{verdict}
+use Rattle.tlv_writer.specs.Write.{padded}
 use Rattle.tlv_shortest.specs.Items.{items}
 use Rattle.tlv_shortest.specs.Shortest.{Shortest, shortestForm}
 use Rattle.tlv_laws.specs.declared.payload.Rewritten.{Rewritten}
@@ -33,6 +34,14 @@ pub record Written-same (bs : List ℕ) : Type 0 where
 
 abbrev pub Rewrites-same : Type 0
 Rewrites-same = (bs : List ℕ) → Bytes bs → verdict bs ≡ Ok tt → Written-same bs
+
+-- a buffer of `room` bytes that holds the shortest form of a payload, `n` bytes long, and zeros behind it
+pub record Written (room : ℕ) (bs out : List ℕ) (n : ℕ) : Type 0 where
+  pub holds : out ≡ padded room (shortestForm bs)
+  pub long : n ≡ length (shortestForm bs)
+  pub fits : n ≤ room
+  pub back : Read-back bs
+  pub same : Written-same bs
 
 -- what rewriting a payload told, as far as the length of its form goes
 abbrev pub lengthOf : Result Rewritten CallFault → Result ℕ CallFault

@@ -1,0 +1,2 @@
+mod Encodes
+mod Ahead

@@ -1,0 +1,5 @@
+pub mod Printed
+pub mod Listing
+pub mod Answers
+pub mod Runs
+pub mod Intake
