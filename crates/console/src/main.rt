@@ -1,4 +1,6 @@
 // Runs scenarios: from standard input, or each file that is named.
+#![tactic(auto)]
+
 ghost use Rattle.std.specs.Prelude.{◌≡◌, [], OnOk};
 
 use anyhow::anyhow;

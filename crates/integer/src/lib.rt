@@ -1,5 +1,6 @@
 // Integers in two's complement of 1, 2, 4 or 8 bytes, high byte first, and the form in which they are kept:
 // the same number in the smallest of these widths.
+#![tactic(auto)]
 
 // Which lengths are widths, and what holds of bytes of such a length.
 mod width;

@@ -1,4 +1,5 @@
 // Characters, words, numbers and lines of a text, and what should have stood where reading stopped.
+#![tactic(auto)]
 
 // Classes of characters, by which a text is split.
 mod chars;

@@ -1,4 +1,5 @@
 // Payloads written as text: entries, values and pairs of hexadecimal digits.
+#![tactic(auto)]
 
 // Bytes that were read, with the text left behind them.
 mod piece;

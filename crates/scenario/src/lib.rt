@@ -1,4 +1,6 @@
 // What the lines of a scenario ask for.
+#![tactic(auto)]
+
 mod step;
 
 pub use step::{Step, read_step};

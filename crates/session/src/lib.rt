@@ -1,4 +1,6 @@
 // Running the lines of a scenario: what each one prints.
+#![tactic(auto)]
+
 mod answers;
 mod intake;
 mod listing;

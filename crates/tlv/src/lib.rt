@@ -1,5 +1,7 @@
 // Entries (type, identifier, length, value) as LwM2M puts them into payloads:
 // reading them, and checking that a payload is made of nothing else.
+#![tactic(auto)]
+
 mod entries;
 mod fault;
 mod grammar;

@@ -1,4 +1,6 @@
 // The laws of the entry layer, on the calls that a program makes.
+#![tactic(auto)]
+
 mod payload;
 mod worked;
 

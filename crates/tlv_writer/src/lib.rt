@@ -1,4 +1,6 @@
 // Writing entries in their shortest form into a lent buffer.
+#![tactic(auto)]
+
 mod bytes;
 mod entry;
 

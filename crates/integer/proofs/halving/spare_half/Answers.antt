@@ -5,7 +5,7 @@ use Rattle.integer.proofs.halving.spare_half.Goals as goal
 
 pub returns-then-half-gt0 : goal.returns-then-half-gt0
 unfolding spare_half
-returns-then-half-gt0 c = halving_step c.args.v.now c.all-are.result (search rules)
+returns-then-half-gt0 c = halving_step c.args.v.now c.all_are.result (search rules)
 
 pub returns-else-half-gt0 : goal.returns-else-half-gt0
 unfolding spare_half

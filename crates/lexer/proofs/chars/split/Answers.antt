@@ -14,9 +14,9 @@ returns-then-not-holds c =
     let stop = prefix_len-drop_no (in_class c.args.class) c.args.text.now c.loop-n.n 0 c.loop-n-test.true (sym c.if-not-holds.ensures) in
     let n : c.loop-n.n ≡ prefix_len (in_class c.args.class) c.args.text.now = omega (arith, stop, c.loop-n.invariant) in
     record {
-      front = c.split-at.ensures.front ∙ ap (λ k. take k c.args.text.now) n;
-      rest = c.split-at.ensures.back ∙ ap (λ k. drop k c.args.text.now) n;
-      whole = omega (arith, c.split-at.ensures.front-len, c.split-at.ensures.back_len);
+      front = c.split_at.ensures.front ∙ ap (λ k. take k c.args.text.now) n;
+      rest = c.split_at.ensures.back ∙ ap (λ k. drop k c.args.text.now) n;
+      whole = omega (arith, c.split_at.ensures.front_len, c.split_at.ensures.back_len);
     }
 
 pub returns : goal.returns
@@ -25,7 +25,7 @@ returns c =
     let stop = prefix_len-drop_all (in_class c.args.class) c.args.text.now c.loop-n.n (omega arith) in
     let n : length c.args.text.now ≡ prefix_len (in_class c.args.class) c.args.text.now = omega (arith, stop, c.loop-n.invariant) in
     record {
-      front = c.split-at-2.ensures.front ∙ ap (λ k. take k c.args.text.now) n;
-      rest = c.split-at-2.ensures.back ∙ ap (λ k. drop k c.args.text.now) n;
-      whole = omega (arith, c.split-at-2.ensures.front-len, c.split-at-2.ensures.back_len);
+      front = c.split_at-2.ensures.front ∙ ap (λ k. take k c.args.text.now) n;
+      rest = c.split_at-2.ensures.back ∙ ap (λ k. drop k c.args.text.now) n;
+      whole = omega (arith, c.split_at-2.ensures.front_len, c.split_at-2.ensures.back_len);
     }

@@ -19,18 +19,18 @@ pub returns-then-rest-eq1 : goal.returns-then-rest-eq1
 returns-then-rest-eq1 c =
     sym c.loop-at.invariant
     ∙ (hex_odd (vec_items c.loop-at.bytes) c.args.text.now c.loop-at.at (omega arith) (sym c.if-holds.ensures)
-    ∙ ap Err (ap (stopped HexPair) (sym (take_rest c.args.text.now c.loop-at.at)) ∙ sym c.stopped-at.ensures))
+    ∙ ap Err (ap (stopped HexPair) (sym (take_rest c.args.text.now c.loop-at.at)) ∙ sym c.stopped_at.ensures))
 
-pub returns-in-default : goal.returns-in-default
-returns-in-default c =
+pub returns-in_default : goal.returns-in_default
+returns-in_default c =
     sym c.loop-at.invariant
     ∙ (hex_pair (vec_items c.loop-at.bytes) c.args.text.now c.loop-at.at (omega arith) (sym c.if-holds.ensures)
-    ∙ (ap (λ o. with_byte o (stopped HexPair (drop c.loop-at.at c.args.text.now)) (λ x. hex_on (vec_items c.loop-at.bytes ++ x ∷ []) (drop (c.loop-at.at + 2) c.args.text.now))) (sym c.in-default.ensures)
-    ∙ ap Err (ap (stopped HexPair) (sym (take_rest c.args.text.now c.loop-at.at)) ∙ sym c.stopped-at-in-default.ensures)))
+    ∙ (ap (λ o. with_byte o (stopped HexPair (drop c.loop-at.at c.args.text.now)) (λ x. hex_on (vec_items c.loop-at.bytes ++ x ∷ []) (drop (c.loop-at.at + 2) c.args.text.now))) (sym c.in_default.ensures)
+    ∙ ap Err (ap (stopped HexPair) (sym (take_rest c.args.text.now c.loop-at.at)) ∙ sym c.stopped_at-in_default.ensures)))
 
 pub loop-at-preserved : goal.loop-at-preserved
 loop-at-preserved c =
-    ap (λ xs. hex_on xs (drop (c.loop-at.at + 2) c.args.text.now)) c.in-ok-push.ensures.items
+    ap (λ xs. hex_on xs (drop (c.loop-at.at + 2) c.args.text.now)) c.in_ok-push.ensures.items
     ∙ (sym
     (hex_pair (vec_items c.loop-at.bytes) c.args.text.now c.loop-at.at (omega arith) (sym c.if-holds.ensures)
     ∙ ap (λ o. with_byte o (stopped HexPair (drop c.loop-at.at c.args.text.now)) (λ x. hex_on (vec_items c.loop-at.bytes ++ x ∷ []) (drop (c.loop-at.at + 2) c.args.text.now))) (sym c.in-Some.ensures))

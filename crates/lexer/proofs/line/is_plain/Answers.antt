@@ -4,14 +4,14 @@ use Rattle.lexer.specs.Lines.{plain_from}
 use Rattle.lexer.proofs.Bodies.{plain_more, plain-stops}
 use Rattle.lexer.proofs.line.is_plain.Goals as goal
 
-pub returns-then-not-plain-after : goal.returns-then-not-plain-after
-returns-then-not-plain-after c =
-    sym (plain-stops c.loop-c.previous c.args.line.now c.loop-c.c-index c.loop-c-test.true (sym c.if-not-plain-after.ensures))
+pub returns-then-not-plain_after : goal.returns-then-not-plain_after
+returns-then-not-plain_after c =
+    sym (plain-stops c.loop-c.previous c.args.line.now c.loop-c.c-index c.loop-c-test.true (sym c.if-not-plain_after.ensures))
     ∙ c.loop-c.invariant
 
 pub loop-c-preserved : goal.loop-c-preserved
 loop-c-preserved c =
-    sym (plain_more c.loop-c.previous c.args.line.now c.loop-c.c-index c.loop-c-test.true (sym c.if-not-plain-after.ensures))
+    sym (plain_more c.loop-c.previous c.args.line.now c.loop-c.c-index c.loop-c-test.true (sym c.if-not-plain_after.ensures))
     ∙ c.loop-c.invariant
 
 pub returns : goal.returns

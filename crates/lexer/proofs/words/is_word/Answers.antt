@@ -5,4 +5,4 @@ use Rattle.lexer.proofs.words.is_word.Goals as goal
 
 pub returns : goal.returns
 unfolding same
-returns c = same_from_decides _ _ (slice_eq-Decides Decides-eqb _ _ _ c.eq.ensures) (bytes_eq-Decides _ _)
+returns c = same_from_decides _ _ (slice_eq-Decides Decides-eqb _ _ _ c.eq.ensures) (bytes_eq-Decides c.args.word.now c.args.name.now)

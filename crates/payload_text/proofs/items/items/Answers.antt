@@ -5,17 +5,17 @@ use Rattle.payload_text.proofs.items.items.Goals as goal
 pub loop-heap-init : goal.loop-heap-init
 loop-heap-init g c = (
   ahead_start (g.I-as-Item.meaning c.args.item.now) c.args.text.now _ _ c.new-bytes.ensures.items
-      c.skip-blanks-rest.ensures.skips c.skip-blanks-rest.ensures.within,
-  c.skip-blanks-rest.ensures.within,
+      c.skip_blanks-rest.ensures.skips c.skip_blanks-rest.ensures.within,
+  c.skip_blanks-rest.ensures.within,
 )
 
 pub loop-heap-preserved : goal.loop-heap-preserved
 loop-heap-preserved g c =
-    let skip = c.skip-blanks-rest-in-loop-heap.ensures in (
+    let skip = c.skip_blanks-rest-in-loop-heap.ensures in (
       ahead_more (g.I-as-Item.meaning c.args.item.now) c.args.text.now (vec_items c.loop-heap.bytes) c.loop-heap.rest.now
-          (vec_items c.in-ok-piece.piece.bytes) c.in-ok-piece.piece.rest.now c.deref.result.now
-          (vec_items c.extend-from-slice.new.self) c.skip-blanks-rest-in-loop-heap.result.now
-          c.loop-heap.invariant.0 (sym c.loop-heap-test.ensures) c.in-ok-piece.ensures.gives c.in-ok-piece.ensures.shorter
-          c.deref.ensures.value c.in-ok-extend-from-slice.ensures.items skip.skips skip.within,
-      omega (arith, skip.within, c.in-ok-piece.ensures.shorter, c.loop-heap.invariant.1),
+          (vec_items c.in_ok-piece.piece.bytes) c.in_ok-piece.piece.rest.now c.deref.result.now
+          (vec_items c.extend_from_slice.new.self) c.skip_blanks-rest-in-loop-heap.result.now
+          c.loop-heap.invariant.0 (sym c.loop-heap-test.ensures) c.in_ok-piece.ensures.gives c.in_ok-piece.ensures.shorter
+          c.deref.ensures.value c.in_ok-extend_from_slice.ensures.items skip.skips skip.within,
+      omega (arith, skip.within, c.in_ok-piece.ensures.shorter, c.loop-heap.invariant.1),
     )

@@ -18,8 +18,8 @@ returns-else-shortest c =
     let bs = c.args.payload.now in
     let n = c.in-Ok.field-0.len in
     let f = front-is 4096 n bs c.rewrite.new.out (answered 4096 n bs t.answers).long t.writes in
-    wrote_same c.put-hex.result (vec_items c.args.out.now) (vec_items c.put-hex.new.out) _ _
-    (ap hex_text f ∙ form_other bs c.in-Ok.field-0.shortest t.same t.decides c.if-shortest.false) c.put-hex.ensures
+    wrote_same c.put_hex.result (vec_items c.args.out.now) (vec_items c.put_hex.new.out) _ _
+    (ap hex_text f ∙ form_other bs c.in-Ok.field-0.shortest t.same t.decides c.if-shortest.false) c.put_hex.ensures
 
 pub returns-in-Err : goal.returns-in-Err
 returns-in-Err c =

@@ -9,5 +9,5 @@ returns c =
     let part = c.args.part.now in
     let new = vec_items c.put-2.new.out in
     let colon : List ℕ = 58 ∷ 32 ∷ [] in
-    wrote_same c.put-2.result old new (colon ++ part) _ (part_is part (eqb-false _ _ (sym c.if-is-empty.ensures)))
-    (wrote_behind c.put-2.result old (vec_items c.put.new.out) new colon part c.in-ok-put.ensures c.put-2.ensures)
+    wrote_same c.put-2.result old new (colon ++ part) _ (part_is part (eqb-false _ _ (sym c.if-is_empty.ensures)))
+    (wrote_behind c.put-2.result old (vec_items c.put.new.out) new colon part c.in_ok-put.ensures c.put-2.ensures)

@@ -9,20 +9,20 @@ returns-then-levels-eq0 t c =
     sym (ap (λ (n : ℕ). old ++ listing n c.args.bytes.now c.args.start c.args.end) c.if-levels-eq0.true
     ∙ ap (λ (zs : List ℕ). old ++ zs) (listing_zero c.args.bytes.now c.args.start c.args.end) ∙ append-nil old)
 
-pub loop-e-preserved-in-ok-put-entries : goal.loop-e-preserved-in-ok-put-entries
-loop-e-preserved-in-ok-put-entries t c =
+pub loop-e-preserved-in_ok-put_entries : goal.loop-e-preserved-in_ok-put_entries
+loop-e-preserved-in_ok-put_entries t c =
     turn_holder c.args.levels c.requires c.if-levels-eq0.false c.args.bytes.now c.loop-e.at c.args.end c.in-Some.e c.in-Some.ensures.says
-    (vec_items c.loop-e.out) (vec_items c.put-entry.new.out) c.in-ok-put-entry.ensures _ (vec_items c.put-entries.new.out)
-    c.in-Some-contents.field-0 (sym c.in-Some-contents.ensures) c.in-ok-put-entries.ensures c.loop-e.invariant
+    (vec_items c.loop-e.out) (vec_items c.put_entry.new.out) c.in_ok-put_entry.ensures _ (vec_items c.put_entries.new.out)
+    c.in-Some-contents.field-0 (sym c.in-Some-contents.ensures) c.in_ok-put_entries.ensures c.loop-e.invariant
 
 pub loop-e-preserved : goal.loop-e-preserved
 loop-e-preserved t c =
     turn_plain c.args.levels c.requires c.if-levels-eq0.false c.args.bytes.now c.loop-e.at c.args.end c.in-Some.e c.in-Some.ensures.says
-    (vec_items c.loop-e.out) (vec_items c.put-entry.new.out) c.in-ok-put-entry.ensures _ (sym c.in-default-contents.ensures) c.loop-e.invariant
+    (vec_items c.loop-e.out) (vec_items c.put_entry.new.out) c.in_ok-put_entry.ensures _ (sym c.in_default-contents.ensures) c.loop-e.invariant
 
 pub returns : goal.returns
 returns t c =
     let out = vec_items c.loop-e.out in
     sym (append-nil out)
-    ∙ ap (λ (zs : List ℕ). out ++ zs) (sym (listing_none c.args.levels c.args.bytes.now c.loop-e.at c.args.end c.in-default.ensures.says))
+    ∙ ap (λ (zs : List ℕ). out ++ zs) (sym (listing_none c.args.levels c.args.bytes.now c.loop-e.at c.args.end c.in_default.ensures.says))
     ∙ c.loop-e.invariant

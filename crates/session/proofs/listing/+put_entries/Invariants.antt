@@ -2,8 +2,8 @@ use Rattle.std.proofs.Common.{◌≡◌, ◌-◌, ◌++◌, vec_items}
 use Rattle.session.specs.Listing.{listing}
 use Rattle.session.proofs.listing.+put_entries.Given as goal
 
-abbrev pub decreases-put-entries : goal.decreases-put-entries
-decreases-put-entries l = l.levels
+abbrev pub decreases-put_entries : goal.decreases-put_entries
+decreases-put_entries l = l.levels
 
 -- What is left to print, behind what was printed, is the whole.
 abbrev pub invariant-loop-e : goal.invariant-loop-e

@@ -5,7 +5,7 @@ use Rattle.session.proofs.listing.put_indent.Goals as goal
 pub loop-level-preserved : goal.loop-level-preserved
 loop-level-preserved c =
     indent_more (vec_items c.args.out.now) (vec_items c.loop-level.out) (vec_items c.put.new.out) c.loop-level.-level
-    c.loop-level.invariant c.in-ok-put.ensures
+    c.loop-level.invariant c.in_ok-put.ensures
 
 pub returns : goal.returns
 returns c =

@@ -8,14 +8,14 @@ pub returns : goal.returns
 returns c =
     let old = vec_items c.args.out.now in
     let v = c.args.v.now in
-    let r = c.put-quoted.result in
-    let new = vec_items c.put-quoted.new.out in
+    let r = c.put_quoted.result in
+    let new = vec_items c.put_quoted.new.out in
     let o1 = vec_items c.put.new.out in
-    let o2 = vec_items c.put-bytes.new.out in
-    let o3 = vec_items c.put-number.new.out in
+    let o2 = vec_items c.put_bytes.new.out in
+    let o3 = vec_items c.put_number.new.out in
     let blank : List ℕ = 32 ∷ [] in
     let n : o3 ≡ o2 ++ number_text (number_of v)
-    = c.in-ok-put-number.ensures ∙ ap (λ (z : Option ℤ). o2 ++ number_text z) c.to-number.ensures.number in
-    let w3 = wrote_behind r o2 o3 new (number_text (number_of v)) (quoted_text v) n c.put-quoted.ensures in
-    let w2 = wrote_behind r o1 o2 new (bytes_text v) (number_text (number_of v) ++ quoted_text v) c.in-ok-put-bytes.ensures w3 in
-    wrote_behind r old o1 new blank (bytes_text v ++ (number_text (number_of v) ++ quoted_text v)) c.in-ok-put.ensures w2
+    = c.in_ok-put_number.ensures ∙ ap (λ (z : Option ℤ). o2 ++ number_text z) c.to_number.ensures.number in
+    let w3 = wrote_behind r o2 o3 new (number_text (number_of v)) (quoted_text v) n c.put_quoted.ensures in
+    let w2 = wrote_behind r o1 o2 new (bytes_text v) (number_text (number_of v) ++ quoted_text v) c.in_ok-put_bytes.ensures w3 in
+    wrote_behind r old o1 new blank (bytes_text v ++ (number_text (number_of v) ++ quoted_text v)) c.in_ok-put.ensures w2

@@ -6,4 +6,4 @@ pub returns : goal.returns
 returns c =
     let end : List ℕ = 10 ∷ [] in
     wrote_behind c.put-2.result (vec_items c.args.out.now) (vec_items c.put.new.out) (vec_items c.put-2.new.out) c.args.text.now end
-    c.in-ok-put.ensures c.put-2.ensures
+    c.in_ok-put.ensures c.put-2.ensures

@@ -6,8 +6,8 @@ use Rattle.session.proofs.text.put_hex.Goals as goal
 
 pub loop-b-preserved : goal.loop-b-preserved
 loop-b-preserved c =
-    hex_more (vec_items c.args.out.now) (vec_items c.loop-b.out) (vec_items c.put-pair.new.out) c.args.bytes.now c.loop-b.b-index
-    c.loop-b-test.true c.loop-b.invariant c.in-ok-put-pair.ensures
+    hex_more (vec_items c.args.out.now) (vec_items c.loop-b.out) (vec_items c.put_pair.new.out) c.args.bytes.now c.loop-b.b-index
+    c.loop-b-test.true c.loop-b.invariant c.in_ok-put_pair.ensures
 
 pub returns : goal.returns
 returns c =

@@ -5,12 +5,12 @@ use Rattle.tlv_laws.proofs.payload.written_form.Goals as goal
 
 pub returns : goal.returns
 returns c =
-    let a = c.shortest-form.ensures.answers in
-    let w = c.shortest-form.ensures.writes in
+    let a = c.shortest_form.ensures.answers in
+    let w = c.shortest_form.ensures.writes in
     record {
       answers = a;
       writes = w;
-      law = written_law c.shortest-form.result (length c.args.out.now) c.args.payload.now c.shortest-form.new.out
+      law = written_law c.shortest_form.result (length c.args.out.now) c.args.payload.now c.shortest_form.new.out
           (λ k. omega (arith, c.type-inv.payload k)) a w;
       least = shortest-header;
     }

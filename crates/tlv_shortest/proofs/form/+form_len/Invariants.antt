@@ -2,8 +2,8 @@ use Rattle.std.proofs.Common.{◌≡◌, ◌+◌, ◌-◌, length}
 use Rattle.tlv_shortest.specs.Items.{items_to, encoded_all}
 use Rattle.tlv_shortest.proofs.form.+form_len.Given as goal
 
-abbrev pub decreases-form-len : goal.decreases-form-len
-decreases-form-len l = l.levels
+abbrev pub decreases-form_len : goal.decreases-form_len
+decreases-form_len l = l.levels
 
 -- What was counted, and what is left to count, make the whole.
 abbrev pub invariant-loop-e : goal.invariant-loop-e

@@ -3,8 +3,8 @@ use Rattle.tlv_writer.specs.Write.{written}
 use Rattle.tlv_shortest.specs.Items.{items_to, encoded_all}
 use Rattle.tlv_shortest.proofs.form.+write_items.Given as goal
 
-abbrev pub decreases-write-items : goal.decreases-write-items
-decreases-write-items l = l.levels
+abbrev pub decreases-write_items : goal.decreases-write_items
+decreases-write_items l = l.levels
 
 -- Writing what is left where the last one ended gives the whole.
 abbrev pub invariant-loop-e : goal.invariant-loop-e

@@ -6,6 +6,6 @@ pub returns : goal.returns
 returns c =
     record {
       ends = refl;
-      writes = put_written c.args.at _ c.args.out.now c.copy-from-slice.new.self c.args.bytes.now
-          c.copy-from-slice.ensures.after (omega arith);
+      writes = put_written c.args.at _ c.args.out.now c.copy_from_slice.new.self c.args.bytes.now
+          c.copy_from_slice.ensures.after (omega arith);
     }

@@ -9,19 +9,19 @@ returns c =
     let old = c.args.out.now in
     let y = short_id c.args.id in
     let z = short_length c.args.len in
-    let x = c.in-ok-t.t ∷ [] in
-    let k = header-known c.in-ok-t.t c.in-ok-t.size c.args.kind c.args.id c.args.len c.in-ok-t.ensures.says in
-    let w = three-written old c.put-id-at.new.out c.put-id-len-at.new.out c.put-length.new.out
-    c.args.at c.put-id-at.result c.put-id-len-at.result c.put-length.result x y z (omega arith)
-    c.put-id-at.ensures.writes c.put-id-at.ensures.ends c.put-id-len-at.ensures.writes c.put-id-len-at.ensures.ends
-    c.put-length.ensures.writes c.put-length.ensures.ends in
-    let m = three-ends old c.put-id-at.new.out c.put-id-len-at.new.out c.put-length.new.out
-    c.args.at c.put-id-at.result c.put-id-len-at.result c.put-length.result x y z (omega arith)
-    c.put-id-at.ensures.writes c.put-id-at.ensures.ends c.put-id-len-at.ensures.writes c.put-id-len-at.ensures.ends
-    c.put-length.ensures.writes c.put-length.ensures.ends in
+    let x = c.in_ok-t.t ∷ [] in
+    let k = header-known c.in_ok-t.t c.in_ok-t.size c.args.kind c.args.id c.args.len c.in_ok-t.ensures.says in
+    let w = three-written old c.put_id-at.new.out c.put_id-len_at.new.out c.put_length.new.out
+    c.args.at c.put_id-at.result c.put_id-len_at.result c.put_length.result x y z (omega arith)
+    c.put_id-at.ensures.writes c.put_id-at.ensures.ends c.put_id-len_at.ensures.writes c.put_id-len_at.ensures.ends
+    c.put_length.ensures.writes c.put_length.ensures.ends in
+    let m = three-ends old c.put_id-at.new.out c.put_id-len_at.new.out c.put_length.new.out
+    c.args.at c.put_id-at.result c.put_id-len_at.result c.put_length.result x y z (omega arith)
+    c.put_id-at.ensures.writes c.put_id-at.ensures.ends c.put_id-len_at.ensures.writes c.put_id-len_at.ensures.ends
+    c.put_length.ensures.writes c.put_length.ensures.ends in
     let s = k.size-is in
     record {
-      answers = room_answer (length old) c.args.at c.put-length.result c.args.len
+      answers = room_answer (length old) c.args.at c.put_length.result c.args.len
           (short_header c.args.kind c.args.id c.args.len) k.short m (omega arith);
       writes = w ∙ ap (λ (b : ℕ). written old c.args.at (b ∷ (y ++ z))) k.type_is;
     }

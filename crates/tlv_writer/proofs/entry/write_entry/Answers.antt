@@ -11,7 +11,7 @@ returns c =
     let bs = encoded c.args.kind c.args.id v in
     let l : length c.clear.new.out ≡ n = ap length c.clear.ensures ∙ length-replicate n 0 in
     record {
-      answers = c.append-entry.ensures.answers ∙ ap (λ (room : ℕ). append_answer room 0 (length v) bs) l;
-      writes = c.append-entry.ensures.writes ∙ ap (λ (old : List ℕ). append_leaves c.append-entry.result old 0 bs) c.clear.ensures
-          ∙ leaves_padded c.append-entry.result n bs;
+      answers = c.append_entry.ensures.answers ∙ ap (λ (room : ℕ). append_answer room 0 (length v) bs) l;
+      writes = c.append_entry.ensures.writes ∙ ap (λ (old : List ℕ). append_leaves c.append_entry.result old 0 bs) c.clear.ensures
+          ∙ leaves_padded c.append_entry.result n bs;
     }

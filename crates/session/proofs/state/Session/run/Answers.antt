@@ -8,9 +8,9 @@ use Rattle.session.proofs.state.Session.run.Goals as goal
 pub returns : goal.returns
 returns c =
     let s = c.args.self.now in
-    let m = meant c.read-step.result in
-    ran s c.args.line.now (vec_items c.args.out.now) (vec_items c.put-readable.new.out) (vec_items c.obey.new.out)
-    c.read-step.result c.obey.result c.obey.new.self c.in-ok-put-readable.field-0 c.in-ok-put-readable.ensures c.read-step.ensures
-    (subst (λ (n : ℕ). Gave (vec_items c.put-readable.new.out) c.obey.result (line_text n c.args.line.now m)
+    let m = meant c.read_step.result in
+    ran s c.args.line.now (vec_items c.args.out.now) (vec_items c.put_readable.new.out) (vec_items c.obey.new.out)
+    c.read_step.result c.obey.result c.obey.new.self c.in_ok-put_readable.field-0 c.in_ok-put_readable.ensures c.read_step.ensures
+    (subst (λ (n : ℕ). Gave (vec_items c.put_readable.new.out) c.obey.result (line_text n c.args.line.now m)
     (line_after (record { echo = s.echo; number = n; bad = s.bad }) m) (vec_items c.obey.new.out) c.obey.new.self)
-    c.saturating-add-number.ensures c.obey.ensures)
+    c.saturating_add-number.ensures c.obey.ensures)
