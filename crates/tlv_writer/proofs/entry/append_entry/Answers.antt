@@ -14,7 +14,7 @@ returns c =
     let e = append-ends (length old) at c.in_ok-value_at.value_at (length v) hd c.in_ok-value_at.ensures.answers in
     let w = c.in_ok-value_at.ensures.writes in
     let n = length-append hd v in
-    let s = k.size-is in
+    let s = k.size_is in
     let m : c.put.result ≡ at + length (encoded c.args.kind c.args.id v) = omega (arith, c.put.ensures.ends) in
     record {
       answers = room_answer (length old) at c.put.result (length v) (encoded c.args.kind c.args.id v) k.short m (omega arith);

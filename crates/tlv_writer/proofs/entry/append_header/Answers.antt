@@ -11,15 +11,15 @@ returns c =
     let z = short_length c.args.len in
     let x = c.in_ok-t.t ∷ [] in
     let k = header-known c.in_ok-t.t c.in_ok-t.size c.args.kind c.args.id c.args.len c.in_ok-t.ensures.says in
-    let w = three-written old c.put_id-at.new.out c.put_id-len_at.new.out c.put_length.new.out
-    c.args.at c.put_id-at.result c.put_id-len_at.result c.put_length.result x y z (omega arith)
-    c.put_id-at.ensures.writes c.put_id-at.ensures.ends c.put_id-len_at.ensures.writes c.put_id-len_at.ensures.ends
+    let w = three-written old c.put-id_at.new.out c.put_id-len_at.new.out c.put_length.new.out
+    c.args.at c.put-id_at.result c.put_id-len_at.result c.put_length.result x y z (omega arith)
+    c.put-id_at.ensures.writes c.put-id_at.ensures.ends c.put_id-len_at.ensures.writes c.put_id-len_at.ensures.ends
     c.put_length.ensures.writes c.put_length.ensures.ends in
-    let m = three-ends old c.put_id-at.new.out c.put_id-len_at.new.out c.put_length.new.out
-    c.args.at c.put_id-at.result c.put_id-len_at.result c.put_length.result x y z (omega arith)
-    c.put_id-at.ensures.writes c.put_id-at.ensures.ends c.put_id-len_at.ensures.writes c.put_id-len_at.ensures.ends
+    let m = three-ends old c.put-id_at.new.out c.put_id-len_at.new.out c.put_length.new.out
+    c.args.at c.put-id_at.result c.put_id-len_at.result c.put_length.result x y z (omega arith)
+    c.put-id_at.ensures.writes c.put-id_at.ensures.ends c.put_id-len_at.ensures.writes c.put_id-len_at.ensures.ends
     c.put_length.ensures.writes c.put_length.ensures.ends in
-    let s = k.size-is in
+    let s = k.size_is in
     record {
       answers = room_answer (length old) c.args.at c.put_length.result c.args.len
           (short_header c.args.kind c.args.id c.args.len) k.short m (omega arith);
