@@ -23,4 +23,4 @@ returns-else-shortest c =
 
 pub returns-in-Err : goal.returns-in-Err
 returns-in-Err c =
-    absurd (never_refused c.args.payload.now c.in-Err.fault (λ k. omega (arith, c.type-inv.payload k)) c.requires c.in-Err.ensures.answers)
+    absurd (never_refused c.args.payload.now c.in-Err.fault (λ k. omega (arith, c.type_inv.payload k)) c.requires c.in-Err.ensures.answers)

@@ -11,6 +11,6 @@ returns c =
       answers = a;
       writes = w;
       law = written_law c.shortest_form.result (length c.args.out.now) c.args.payload.now c.shortest_form.new.out
-          (λ k. omega (arith, c.type-inv.payload k)) a w;
+          (λ k. omega (arith, c.type_inv.payload k)) a w;
       least = shortest-header;
     }
