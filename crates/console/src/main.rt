@@ -3,11 +3,11 @@
 
 ghost use Rattle.std.specs.Prelude.{◌≡◌, [], OnOk};
 
-use anyhow::anyhow;
 use session::{Session, take_in};
 use std::env;
 use std::fs::File;
 use std::io::Read;
+use std::process::ExitCode;
 
 // Prints what a line prints, before the next one is read, and makes room for that one.
 fn run_line(rt: &HostRuntime, session: &mut Session, line: &mut Vec<u8>) -> anyhow::Result<()>
@@ -72,10 +72,11 @@ fn run_all(rt: &HostRuntime) -> anyhow::Result<bool> {
     Ok(bad)
 }
 
-fn main(rt: HostRuntime) -> anyhow::Result<()> {
-    match run_all(&rt) {
-        Ok(false) => Ok(()),
-        Ok(true) => Err(anyhow!("a line was bad")),
-        Err(e) => Err(e),
-    }
+fn main(rt: HostRuntime) -> anyhow::Result<ExitCode> {
+    let bad = run_all(&rt)?;
+    Ok(if bad {
+        ExitCode::FAILURE
+    } else {
+        ExitCode::SUCCESS
+    })
 }
