@@ -1,7 +1,7 @@
 -- Where a comment begins, where blanks end, and what is plain.
-use Rattle.std.proofs.Common.{◌≡◌, ℕ, suc, ◌+◌, ◌<◌, ◌≤◌, Bool, true, false, cond, not, ◌&&◌, eqb, List, [], ◌∷◌, length, get_or, drop, refl, ◌∙◌, arith}
+use Rattle.std.proofs.Common.{◌≡◌, ℕ, suc, ◌+◌, ◌<◌, ◌≤◌, Bool, true, false, not, ◌&&◌, eqb, List, [], ◌∷◌, length, get_or, drop, ◌∙◌, arith}
 use Rattle.std.proofs.lemmas.List.{at_drop_more}
-use Rattle.std.proofs.lemmas.Bool.{cond_both, cond-true, cond-false, and_from, and_left}
+use Rattle.std.proofs.lemmas.Bool.{cond_both, cond-true, cond-false, and_left}
 use Rattle.lexer.specs.Lines.{comment_at, quoted_behind, plain_after, plain_from}
 
 pub comment_more : (q : Bool) (t : List ℕ) (i : ℕ) → i < length t → (eqb (get_or t i 0) 35 && not q) ≡ false →

@@ -1,5 +1,5 @@
 -- Bytes as pairs of hexadecimal digits.
-use Rattle.std.specs.Prelude.{ℕ, ◌+◌, ◌-◌, ◌*◌, Bool, cond, ◌&&◌, List, [], ◌∷◌, ◌++◌, Some, None, Ok, Err, Option, Result, nat_le}
+use Rattle.std.specs.Prelude.{ℕ, ◌+◌, ◌-◌, ◌*◌, cond, ◌&&◌, List, [], ◌∷◌, ◌++◌, Some, None, Ok, Err, Option, Result, nat_le}
 use Rattle.lexer.specs.declared.fault.Expected.TheVariants.{HexPair}
 use Rattle.lexer.specs.declared.fault.Misread.{Misread}
 use Rattle.lexer.specs.Faults.{stopped}

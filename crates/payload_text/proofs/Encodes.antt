@@ -1,12 +1,11 @@
 -- A header in six bytes, and the entry behind it.
-use Rattle.std.proofs.Common.{◌≡◌, ℕ, suc, ◌+◌, ◌-◌, ◌≤◌, Bool, true, false, cond, ltb, leb, List, [], ◌∷◌, ◌++◌, length, take, drop, Ok, Err, sym, refl, ap, ◌∙◌, arith, length-append}
+use Rattle.std.proofs.Common.{◌≡◌, ℕ, ◌+◌, ◌-◌, ◌≤◌, Bool, true, false, cond, ltb, List, ◌++◌, length, take, drop, Ok, Err, sym, refl, ap, ◌∙◌, arith, length-append}
 use Rattle.std.proofs.lemmas.List.{take_at}
-use Rattle.std.proofs.lemmas.Bool.{cond_both, cases_Bool, cond-true, cond-false, le-leb}
-use Rattle.std.proofs.lemmas.Bool.Decides.{nat_tests}
+use Rattle.std.proofs.lemmas.Bool.{cond_both, le-leb}
 use Rattle.reason.specs.declared.Reason.{Reason}
 use Rattle.reason.specs.declared.Reason.TheVariants.{DoesNotFit, NoRoom}
 use Rattle.tlv.specs.declared.header.Kind.{Kind}
-use Rattle.tlv.specs.Header.{short_header, short_id, short_length, short_type}
+use Rattle.tlv.specs.Header.{short_header, short_id, short_length}
 use Rattle.tlv_writer.specs.Write.{append_answer, written, encoded}
 use Rattle.lexer.specs.declared.fault.Expected.TheVariants.{ShorterValue}
 use Rattle.lexer.specs.Faults.{stopped}

@@ -1,5 +1,5 @@
 -- A line is printed first, and then obeyed.
-use Rattle.std.proofs.Common.{◌≡◌, ℕ, ◌<◌, ◌≤◌, Bool, List, [], ◌∷◌, ◌++◌, length, Ok, Err, Result, sym, refl, ap, ◌∙◌, subst, arith}
+use Rattle.std.proofs.Common.{◌≡◌, ℕ, List, ◌++◌, Ok, Err, Result, ap, ◌∙◌, subst, arith}
 use Rattle.std.specs.declared.alloc.AllocError.{AllocError}
 use Rattle.lexer.specs.declared.fault.BadLine.{BadLine}
 use Rattle.lexer.specs.declared.fault.Expected.TheVariants as expected

@@ -1,5 +1,5 @@
 -- What each step answers.
-use Rattle.std.specs.Prelude.{ℕ, Bool, true, false, cond, List, [], ◌∷◌, ◌++◌, length, ℤ, Ok, Err, codes, decimal, Result, nat_lt}
+use Rattle.std.specs.Prelude.{ℕ, cond, List, [], ◌∷◌, ◌++◌, length, ℤ, Ok, Err, codes, decimal, Result, nat_lt}
 use Rattle.std.specs.Str.{bytes_eq}
 use Rattle.reason.specs.declared.Reason.TheVariants.{DoesNotFit}
 use Rattle.integer.specs.Integer.{kept_of}

@@ -1,5 +1,5 @@
 -- The entries of a payload, a line each.
-use Rattle.std.specs.Prelude.{ℕ, zero, suc, ◌+◌, ◌-◌, ◌*◌, Bool, true, false, cond, ◌&&◌, List, [], ◌∷◌, ◌++◌, length, replicate, ℤ, Some, None, codes, decimal, Option, nat_le, nat_lt}
+use Rattle.std.specs.Prelude.{ℕ, zero, suc, ◌-◌, ◌*◌, Bool, true, cond, ◌&&◌, List, [], ◌∷◌, ◌++◌, replicate, ℤ, Some, None, codes, decimal, Option, nat_le, nat_lt}
 use Rattle.std.specs.Fmt.{signed_decimal}
 use Rattle.integer.specs.Integer.{number_of}
 use Rattle.tlv.specs.declared.header.Kind.{Kind}

@@ -1,5 +1,5 @@
 -- What a step prints: texts, byte by byte.
-use Rattle.std.specs.Prelude.{◌≡◌, ℕ, ◌+◌, ◌/◌, ◌%◌, Bool, true, false, cond, List, [], ◌∷◌, ◌++◌, length, codes, decimal, Result, OnOk, nat_lt}
+use Rattle.std.specs.Prelude.{◌≡◌, ℕ, ◌+◌, ◌/◌, ◌%◌, cond, List, [], ◌∷◌, ◌++◌, decimal, Result, OnOk, nat_lt}
 use Rattle.reason.specs.Reason.{number_of, code_of, code_text}
 use Rattle.tlv.specs.declared.fault.CallFault.{CallFault}
 

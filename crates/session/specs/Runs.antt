@@ -7,7 +7,7 @@ use Rattle.lexer.specs.Lines.{body_of, Text}
 use Rattle.payload_text.specs.Notation.{payload_of}
 use Rattle.scenario.specs.Steps.{Meaning, blank, echo, say, check, header, integer, reading_of, all_bad}
 use Rattle.session.specs.declared.state.Session.{Session}
-use Rattle.session.specs.Answers.{meaning_text, line_text}
+use Rattle.session.specs.Answers.{line_text}
 
 -- the number of the next line
 abbrev pub next_number : ℕ → ℕ

@@ -1,16 +1,16 @@
 -- A container's fault, entry by entry.
-use Rattle.std.proofs.Common.{◌≡◌, ℕ, ◌+◌, ◌<◌, ◌≤◌, Bool, true, false, cond, eqb, List, [], ◌∷◌, Some, None, Ok, Err, Option, Result, sym, refl, ap, ◌∙◌, arith}
+use Rattle.std.proofs.Common.{◌≡◌, ℕ, ◌<◌, ◌≤◌, Bool, true, false, cond, eqb, List, Some, None, Ok, Err, Option, sym, refl, ap, ◌∙◌, arith}
 use Rattle.std.proofs.lemmas.Bool.Decides.{nat_tests}
 use Rattle.tlv.specs.declared.header.Kind.{Kind}
 use Rattle.tlv.specs.declared.header.Kind.TheVariants.{ObjectInstance, ResourceInstance, MultipleResource, Resource}
 use Rattle.tlv.specs.declared.entries.Entry.{Entry}
-use Rattle.tlv.specs.Entries.{entries, entry_at, Located}
+use Rattle.tlv.specs.Entries.{entries, entry_at}
 use Rattle.tlv.proofs.Walks.{entries-more, entries_none, entry_known}
 use Rattle.tlv.specs.declared.grammar.Container.{Container}
 use Rattle.tlv.specs.declared.grammar.Container.TheVariants.{Payload, Instance, Multiple}
 use Rattle.tlv.specs.declared.fault.EntryFault.{EntryFault}
 use Rattle.tlv.specs.Faults.{fault_at}
-use Rattle.tlv.specs.Grammar.{allows, within, levels, Fault, or_else, first_of, reach, Judge, inside, entry_fault, ends, filled, nothing, in_multiple, in_instance, below, fault, told, told_entry}
+use Rattle.tlv.specs.Grammar.{allows, within, Fault, or_else, first_of, reach, Judge, inside, entry_fault, ends, filled, nothing, in_multiple, below, fault, told, told_entry}
 
 or_assoc : (a b c : Fault) → or_else (or_else a b) c ≡ or_else a (or_else b c)
 or_assoc None b c = refl

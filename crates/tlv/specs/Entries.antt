@@ -1,5 +1,5 @@
 -- The entries of a container, as far as they can be read.
-use Rattle.std.specs.Prelude.{◌≡◌, ℕ, zero, suc, ◌+◌, ◌-◌, ◌≤◌, Bool, true, false, cond, List, [], ◌∷◌, length, Some, None, Option, nat_le}
+use Rattle.std.specs.Prelude.{◌≡◌, ℕ, zero, suc, ◌+◌, ◌-◌, ◌≤◌, cond, List, [], ◌∷◌, length, Some, None, Option, nat_le}
 use Rattle.std.specs.List.{between}
 use Rattle.tlv.specs.declared.header.Header.{Header}
 use Rattle.tlv.specs.declared.entries.Entry.{Entry}

@@ -1,5 +1,5 @@
 -- What is known of a payload whose shortest form was written.
-use Rattle.std.proofs.Common.{◌≡◌, ℕ, ◌-◌, ◌≤◌, Bool, true, false, cond, leb, List, ◌++◌, length, take, drop, replicate, IfOk, Ok, Err, Decides, Result, sym, refl, ap, ◌∙◌, arith, leb-true}
+use Rattle.std.proofs.Common.{◌≡◌, ℕ, ◌-◌, ◌≤◌, Bool, true, false, cond, leb, List, length, take, replicate, IfOk, Ok, Err, Decides, Result, sym, refl, ap, ◌∙◌, arith, leb-true}
 use Rattle.std.proofs.lemmas.List.{take_at}
 use Rattle.reason.specs.declared.Reason.TheVariants.{NoRoom}
 use Rattle.tlv.specs.declared.fault.CallFault.{CallFault}

@@ -1,12 +1,9 @@
 -- No header is shorter than the shortest, so no shortest form is longer than what it was read from.
-use Rattle.std.proofs.Common.{◌≡◌, ℕ, zero, suc, ◌+◌, ◌-◌, ◌*◌, ◌/◌, ◌%◌, ◌<◌, ◌≤◌, Bool, true, false, cond, eqb, ltb, leb, List, [], ◌∷◌, ◌++◌, length, get_or, Some, None, Option, sym, refl, ap, ◌∙◌, subst, arith, length-append}
+use Rattle.std.proofs.Common.{◌≡◌, ℕ, zero, suc, ◌+◌, ◌*◌, ◌/◌, ◌%◌, ◌<◌, ◌≤◌, Bool, true, false, cond, eqb, List, [], ◌∷◌, length, get_or, Some, None, Option, refl, arith, length-append}
 use Rattle.std.proofs.lemmas.Bool.Decides.{nat_tests}
-use Rattle.std.specs.List.{between}
 use Rattle.tlv.specs.declared.header.Kind.{Kind}
 use Rattle.tlv.specs.declared.header.Header.{Header}
-use Rattle.tlv.specs.declared.entries.Entry.{Entry}
-use Rattle.tlv.specs.Header.{short_id, short_length, short_type, short_header, read_header, read_length, read_wide, headed, big_endian}
-use Rattle.tlv.specs.Entries.{located, entry_at}
+use Rattle.tlv.specs.Header.{short_id, short_length, short_header, read_header, read_length, read_wide, headed, big_endian}
 
 abbrev pub Bytes : List ℕ → Type 0
 Bytes bs = (k : ℕ) → get_or bs k 0 < 256

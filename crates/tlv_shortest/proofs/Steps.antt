@@ -1,5 +1,5 @@
 -- The shortest form, entry by entry.
-use Rattle.std.proofs.Common.{◌≡◌, ℕ, zero, suc, ◌+◌, ◌-◌, ◌<◌, ◌≤◌, Bool, true, false, cond, ltb, leb, ◌⊎◌, List, [], ◌∷◌, ◌++◌, length, get_or, Some, None, Option, sym, refl, ap, ◌∙◌, subst, inl, inr, arith, length-append, length-drop, length-take}
+use Rattle.std.proofs.Common.{◌≡◌, ℕ, zero, suc, ◌+◌, ◌-◌, ◌<◌, ◌≤◌, Bool, true, false, cond, ltb, leb, List, ◌++◌, length, get_or, Some, None, Option, sym, refl, ap, ◌∙◌, arith, length-append, length-drop, length-take}
 use Rattle.std.proofs.lemmas.List.{get_or_past}
 use Rattle.std.proofs.lemmas.Bool.Decides.{nat_tests}
 use Rattle.std.proofs.lemmas.List.Edits.{length-between, get_or-between}
@@ -9,7 +9,7 @@ use Rattle.tlv.specs.declared.header.Header.{Header}
 use Rattle.tlv.specs.declared.entries.Entry.{Entry}
 use Rattle.tlv.specs.declared.grammar.Container.{Container}
 use Rattle.tlv.specs.Header.{short_header, read_header}
-use Rattle.tlv.specs.Entries.{located, entry_at, entries, value_of, Located}
+use Rattle.tlv.specs.Entries.{located, entry_at, entries, value_of}
 use Rattle.tlv.specs.Grammar.{within}
 use Rattle.tlv.proofs.Walks.{entries-more, entries_none, entry_known}
 use Rattle.tlv_shortest.specs.Items.{Items, none, plain, holder, item, items_of, items_to, encoded_all}

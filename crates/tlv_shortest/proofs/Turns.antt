@@ -1,10 +1,9 @@
 -- One turn of the loops that count and write the shortest form.
-use Rattle.std.proofs.Common.{◌≡◌, ℕ, zero, suc, ◌+◌, ◌-◌, ◌<◌, ◌≤◌, Bool, true, cond, leb, List, [], ◌∷◌, ◌++◌, length, Some, None, Ok, Err, Option, Result, sym, refl, ap, ◌∙◌, subst, append_assoc, arith, length-append, le-leb}
+use Rattle.std.proofs.Common.{◌≡◌, ℕ, suc, ◌+◌, ◌-◌, ◌≤◌, Bool, true, cond, leb, List, ◌++◌, length, Some, None, Ok, Err, Option, Result, sym, refl, ap, ◌∙◌, append_assoc, arith, length-append, le-leb}
 use Rattle.std.proofs.lemmas.List.Edits.{length-between}
 use Rattle.reason.specs.declared.Reason.{Reason}
 use Rattle.reason.specs.declared.Reason.TheVariants.{NoRoom}
 use Rattle.tlv.specs.declared.fault.PayloadFault.{PayloadFault}
-use Rattle.tlv.specs.declared.header.Kind.{Kind}
 use Rattle.tlv.specs.declared.entries.Entry.{Entry}
 use Rattle.tlv.specs.declared.grammar.Container.{Container}
 use Rattle.tlv.specs.Header.{short_header}
@@ -13,11 +12,11 @@ use Rattle.tlv.specs.Faults.{of_reason}
 use Rattle.tlv.specs.Grammar.{within, verdict}
 use Rattle.tlv.proofs.Walks.{entry_known}
 use Rattle.tlv_writer.specs.Write.{encoded, written, append_answer}
-use Rattle.tlv_writer.proofs.Writes.{written_on, written_none, room_answer}
-use Rattle.tlv_shortest.specs.Items.{Items, none, plain, holder, item, items_to, encoded_all}
+use Rattle.tlv_writer.proofs.Writes.{written_on, room_answer}
+use Rattle.tlv_shortest.specs.Items.{Items, item, items_to, encoded_all}
 use Rattle.tlv_shortest.specs.Shortest.{item_length, shortest_form, form_answer, shortest_answer}
 use Rattle.tlv_shortest.proofs.Sizes.{Bytes}
-use Rattle.tlv_shortest.proofs.Steps.{items_more, items-none, plain-length, holder-length, form_short}
+use Rattle.tlv_shortest.proofs.Steps.{items_more, plain-length, holder-length, form_short}
 
 pub ok_same : (x y : ℕ) → ◌≡◌ {A = Result ℕ Reason} (Ok x) (Ok y) → x ≡ y
 ok_same x y e = cc

@@ -1,6 +1,5 @@
-use Rattle.std.proofs.Common.{◌≡◌, List, ◌++◌, length, vec_items, sym, ap, ◌∙◌, arith}
+use Rattle.std.proofs.Common.{vec_items, ap, ◌∙◌, arith}
 use Rattle.tlv_laws.proofs.Answered.{answered, front-is}
-use Rattle.tlv_shortest.specs.Shortest.{shortest_form}
 use Rattle.session.specs.Printed.{hex_text}
 use Rattle.session.proofs.Forms.{form_shortest, form_other, never_refused}
 use Rattle.session.proofs.Texts.{wrote_same}

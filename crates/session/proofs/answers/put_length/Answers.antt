@@ -1,4 +1,4 @@
-use Rattle.std.proofs.Common.{◌≡◌, vec_items, ◌∙◌}
+use Rattle.std.proofs.Common.{vec_items, ◌∙◌}
 use Rattle.session.specs.Answers.{length_text}
 use Rattle.session.proofs.Texts.{wrote_same}
 use Rattle.session.proofs.answers.put_length.Goals as goal

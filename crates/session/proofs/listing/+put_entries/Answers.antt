@@ -1,4 +1,4 @@
-use Rattle.std.proofs.Common.{◌≡◌, ℕ, ◌-◌, List, [], ◌++◌, vec_items, sym, ap, ◌∙◌, append-nil, arith}
+use Rattle.std.proofs.Common.{ℕ, List, ◌++◌, vec_items, sym, ap, ◌∙◌, append-nil}
 use Rattle.session.specs.Listing.{listing}
 use Rattle.session.proofs.Lines.{listing_zero, listing_none, turn_plain, turn_holder}
 use Rattle.session.proofs.listing.+put_entries.Goals as goal

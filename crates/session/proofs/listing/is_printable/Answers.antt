@@ -1,5 +1,4 @@
-use Rattle.std.proofs.Common.{◌≡◌, length, sym, ap, ◌∙◌, arith}
-use Rattle.session.specs.Listing.{printable}
+use Rattle.std.proofs.Common.{sym, ◌∙◌}
 use Rattle.session.proofs.Texts.{printable-more, printable-low, printable-high, printable-none}
 use Rattle.session.proofs.listing.is_printable.Goals as goal
 use Rattle.session.proofs.listing.is_printable.Goals.{then-b-lt32-via-then-b-lt32, then-b-lt32-via-else-b-lt32+then-b-ge127}

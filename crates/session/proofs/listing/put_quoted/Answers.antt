@@ -1,6 +1,6 @@
-use Rattle.std.proofs.Common.{◌≡◌, ℕ, List, [], ◌∷◌, ◌++◌, length, vec_items, sym, ap, ◌∙◌, arith}
+use Rattle.std.proofs.Common.{ℕ, List, [], ◌∷◌, ◌++◌, vec_items, sym}
 use borrow.Author.Tests.{eqb-false}
-use Rattle.session.proofs.Texts.{behind, wrote_behind, wrote_same, quoted_is}
+use Rattle.session.proofs.Texts.{wrote_behind, wrote_same, quoted_is}
 use Rattle.session.proofs.listing.put_quoted.Goals as goal
 
 pub returns : goal.returns

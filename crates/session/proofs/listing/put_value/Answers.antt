@@ -1,4 +1,4 @@
-use Rattle.std.proofs.Common.{◌≡◌, ℕ, List, [], ◌∷◌, ◌++◌, ℤ, vec_items, Option, sym, ap, ◌∙◌}
+use Rattle.std.proofs.Common.{◌≡◌, ℕ, List, [], ◌∷◌, ◌++◌, ℤ, vec_items, Option, ap, ◌∙◌}
 use Rattle.integer.specs.Integer.{number_of}
 use Rattle.session.specs.Listing.{bytes_text, number_text, quoted_text}
 use Rattle.session.proofs.Texts.{wrote_behind}

@@ -1,4 +1,4 @@
-use Rattle.std.proofs.Common.{◌≡◌, ◌+◌, ◌-◌, ◌<◌, ◌≤◌, Some, sym, ap, ◌∙◌, arith, leb-false, leb-true}
+use Rattle.std.proofs.Common.{◌+◌, ◌-◌, Some, sym, ap, ◌∙◌, arith, leb-false, leb-true}
 use Rattle.tlv.specs.declared.entries.Entry.{Entry}
 use Rattle.tlv.proofs.Walks.{entry_outside, entry_turned, entry_cut, entry_past, entry_there, entry_known}
 use Rattle.tlv.proofs.entries.entry_at.Goals as goal

@@ -1,4 +1,4 @@
-use Rattle.std.proofs.Common.{◌⊎◌, inl, inr}
+use Rattle.std.proofs.Common.{inl, inr}
 use Rattle.tlv.proofs.Walks.{clipped}
 use Rattle.tlv.proofs.entries.part.Goals as goal
 use Rattle.tlv.proofs.entries.part.Goals.{then-to-bytes, else-to-bytes, then-from-end, else-from-end}

@@ -1,4 +1,4 @@
-use Rattle.std.proofs.Common.{◌≡◌, ℕ, ◌-◌, length, get_or, take, drop, ap, ◌∙◌, rules}
+use Rattle.std.proofs.Common.{ℕ, ◌-◌, length, get_or, take, drop, ap, ◌∙◌, rules}
 use Rattle.tlv.specs.Header.{read_length}
 use Rattle.tlv.proofs.Heads.{narrow_head, wide_head}
 use Rattle.tlv.proofs.header.read_header.Goals as goal

@@ -1,4 +1,4 @@
-use Rattle.std.proofs.Common.{◌≡◌, ℕ, suc, ◌+◌, ◌-◌, ◌≤◌, length, Some, None, Ok, Option, sym, refl, ap, ◌∙◌, subst, arith}
+use Rattle.std.proofs.Common.{◌≡◌, ℕ, ◌+◌, ◌-◌, length, Ok, Option, sym, ap, ◌∙◌, subst, arith}
 use Rattle.tlv.specs.declared.grammar.Container.{Container}
 use Rattle.tlv.specs.Grammar.{within}
 use Rattle.tlv_shortest.specs.Items.{Items, items_to, encoded_all}

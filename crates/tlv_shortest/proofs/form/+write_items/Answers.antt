@@ -1,13 +1,10 @@
-use Rattle.std.proofs.Common.{◌≡◌, ℕ, suc, ◌+◌, ◌-◌, ◌<◌, ◌≤◌, List, ◌++◌, length, Some, None, Ok, Option, sym, refl, ap, ◌∙◌, subst, arith, length-append}
+use Rattle.std.proofs.Common.{◌≡◌, ℕ, ◌+◌, ◌-◌, ◌<◌, ◌≤◌, List, ◌++◌, length, Ok, sym, refl, ap, ◌∙◌, subst, arith, length-append}
 use Rattle.std.proofs.lemmas.List.Edits.{length-between}
-use Rattle.tlv.specs.declared.grammar.Container.{Container}
 use Rattle.tlv.specs.Header.{short_header}
 use Rattle.tlv.specs.Entries.{value_of}
-use Rattle.tlv.specs.Grammar.{within}
 use Rattle.tlv_writer.specs.Write.{written, encoded}
-use Rattle.tlv_writer.proofs.Writes.{written_none, room_answer, append-ends}
-use Rattle.tlv_shortest.specs.Items.{Items, items_to, encoded_all}
-use Rattle.tlv_shortest.specs.Shortest.{item_length}
+use Rattle.tlv_writer.proofs.Writes.{written_none, append-ends}
+use Rattle.tlv_shortest.specs.Items.{items_to, encoded_all}
 use Rattle.tlv_shortest.proofs.Steps.{items_zero, items-none, form_short}
 use Rattle.tlv_shortest.proofs.Turns.{ok_same, no_break, plain-bytes, holder-bytes, Moved, moved}
 use Rattle.tlv_shortest.proofs.form.+write_items.Goals as goal

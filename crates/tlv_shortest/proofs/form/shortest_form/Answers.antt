@@ -1,4 +1,4 @@
-use Rattle.std.proofs.Common.{◌≡◌, ℕ, List, length, Ok, sym, ap, ◌∙◌, arith}
+use Rattle.std.proofs.Common.{ℕ, List, length, Ok, sym, ap, ◌∙◌, arith}
 use Rattle.tlv_writer.specs.Write.{written}
 use Rattle.tlv_writer.proofs.Writes.{leaves_padded}
 use Rattle.tlv_shortest.specs.Shortest.{shortest_form}

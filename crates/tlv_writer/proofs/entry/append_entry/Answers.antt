@@ -1,7 +1,7 @@
-use Rattle.std.proofs.Common.{◌≡◌, ℕ, ◌+◌, ◌≤◌, length, ap, ◌∙◌, arith, length-append}
+use Rattle.std.proofs.Common.{◌≡◌, ℕ, ◌+◌, length, ap, ◌∙◌, arith, length-append}
 use Rattle.tlv.specs.Header.{short_header}
 use Rattle.tlv_writer.specs.Write.{written, encoded}
-use Rattle.tlv_writer.proofs.Writes.{written_on, room_answer, header-known, WorkedOut, append-ends}
+use Rattle.tlv_writer.proofs.Writes.{written_on, room_answer, header-known, append-ends}
 use Rattle.tlv_writer.proofs.entry.append_entry.Goals as goal
 
 pub returns : goal.returns

@@ -1,7 +1,7 @@
-use Rattle.std.proofs.Common.{◌≡◌, ℕ, ◌+◌, ◌≤◌, List, [], ◌∷◌, ◌++◌, length, ap, ◌∙◌, arith}
-use Rattle.tlv.specs.Header.{short_id, short_length, short_type, short_header}
+use Rattle.std.proofs.Common.{ℕ, [], ◌∷◌, ◌++◌, length, ap, ◌∙◌, arith}
+use Rattle.tlv.specs.Header.{short_id, short_length, short_header}
 use Rattle.tlv_writer.specs.Write.{written}
-use Rattle.tlv_writer.proofs.Writes.{three-written, three-ends, room_answer, header-known, WorkedOut}
+use Rattle.tlv_writer.proofs.Writes.{three-written, three-ends, room_answer, header-known}
 use Rattle.tlv_writer.proofs.entry.append_header.Goals as goal
 
 pub returns : goal.returns

@@ -1,4 +1,4 @@
-use Rattle.std.proofs.Common.{◌≡◌, ℕ, List, length, replicate, ap, ◌∙◌}
+use Rattle.std.proofs.Common.{◌≡◌, ℕ, List, length, ap, ◌∙◌}
 use lib.ListN.{length-replicate}
 use Rattle.tlv_writer.specs.Write.{append_answer, append_leaves, encoded}
 use Rattle.tlv_writer.proofs.Writes.{leaves_padded}

@@ -1,5 +1,4 @@
-use Rattle.std.proofs.Common.{◌≡◌, sym, ap, ◌∙◌, arith, rules}
-use Rattle.tlv.specs.Walk.{first_of, remaining}
+use Rattle.std.proofs.Common.{arith, rules}
 use Rattle.tlv.proofs.Walks.{entries-more, entries_none}
 use Rattle.tlv.proofs.walk.EntriesIterator.next.Goals as goal
 use Rattle.std.proofs.iter.Next.{firm}
