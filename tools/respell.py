@@ -3,8 +3,8 @@
 
 Functions and lemmas are in snake case, types and facts in upper camel case; a dash joins two names, and a plain
 word is added with an underscore. Names of src/ (functions, fields, types), strings, comments' prose and generated
-names keep their spelling. Run once at the top of a repository that the kit's port.py has turned; a second run
-changes nothing. With --list it prints the renamings alone."""
+names keep their spelling. Run once at the top of a repository that the kit's port.py has turned. With --list it
+prints the renamings alone."""
 import glob
 import os
 import re

@@ -12,9 +12,9 @@ pub record WorkedIntegers : Type 0 where
   pub form_128 : kept_form (0x00 ∷ 0x00 ∷ 0x00 ∷ 0x80 ∷ []) ≡ Some (0x00 ∷ 0x80 ∷ [])
   pub read_128 : signed (0x00 ∷ 0x80 ∷ []) ≡ pos 128
   -- -128 is 80.
-  pub kept-minus_128 : kept_of (negsuc 127) ≡ 0x80 ∷ []
+  pub kept_minus_128 : kept_of (negsuc 127) ≡ 0x80 ∷ []
   pub form_minus_128 : kept_form (0xFF ∷ 0x80 ∷ []) ≡ Some (0x80 ∷ [])
-  pub read-minus_128 : signed (0x80 ∷ []) ≡ negsuc 127
+  pub read_minus_128 : signed (0x80 ∷ []) ≡ negsuc 127
   -- 65535 is 00 00 FF FF.
   pub kept_65535 : kept_of (pos 65535) ≡ 0x00 ∷ 0x00 ∷ 0xFF ∷ 0xFF ∷ []
   pub form_65535 : kept_form (0x00 ∷ 0x00 ∷ 0x00 ∷ 0x00 ∷ 0x00 ∷ 0x00 ∷ 0xFF ∷ 0xFF ∷ []) ≡ Some (0x00 ∷ 0x00 ∷ 0xFF ∷ 0xFF ∷ [])

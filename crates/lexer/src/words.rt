@@ -1,4 +1,4 @@
-ghost use Rattle.std.specs.Prelude.{◌≡◌, ◌+◌, ◌≤◌, length};
+ghost use Rattle.std.specs.Prelude.{◌≡◌, ◌≤◌, length};
 ghost use Rattle.lexer.specs.Numbers.{number_of};
 ghost use Rattle.lexer.specs.Words.{same, skip_blanks, word_of, behind_word};
 

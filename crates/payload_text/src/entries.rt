@@ -1,4 +1,4 @@
-ghost use Rattle.std.specs.Prelude.{◌≡◌, ◌<◌, length, IfOk};
+ghost use Rattle.std.specs.Prelude.{◌<◌, length, IfOk};
 ghost use Rattle.payload_text.specs.Notation.{element_of, resource_of, instance_of, payload_entry_of, GivesPart};
 
 use crate::entry::{numbered, pack};

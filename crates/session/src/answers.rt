@@ -1,4 +1,4 @@
-ghost use Rattle.std.specs.Prelude.{◌≡◌, [], ◌∷◌, ◌++◌, Ok};
+ghost use Rattle.std.specs.Prelude.{◌≡◌, Ok};
 ghost use Rattle.tlv.specs.Grammar.{verdict};
 ghost use Rattle.session.specs.Printed.{Wrote};
 ghost use Rattle.session.specs.Answers.{form_text, length_text, well_formed_text, check_text, header_text, integer_text, part_text, bad_head, bad_text};

@@ -1,5 +1,4 @@
-ghost use Rattle.std.specs.Prelude.{◌≡◌, ◌-◌, ◌*◌, ◌<◌, ◌≤◌, true, false, cond, ◌&&◌, List, [], replicate};
-ghost use Rattle.integer.specs.Integer.{number_of};
+ghost use Rattle.std.specs.Prelude.{◌≡◌, ◌-◌, ◌*◌, ◌<◌, ◌≤◌, true, false, replicate};
 ghost use Rattle.tlv.specs.Grammar.{within};
 ghost use Rattle.session.specs.Printed.{Wrote};
 ghost use Rattle.session.specs.Listing.{kind_text, bytes_text, number_text, printable, quoted_text, value_text, own_text, head_text, entry_text, listing};

@@ -1,5 +1,4 @@
-ghost use Rattle.std.specs.Prelude.{◌≡◌, ◌≤◌, true, false, ◌||◌, [], ◌∷◌, ◌++◌, length, Decides};
-ghost use Rattle.lexer.specs.Lines.{Text};
+ghost use Rattle.std.specs.Prelude.{◌≡◌, true, false, ◌||◌, [], ◌∷◌, ◌++◌, Decides};
 ghost use Rattle.payload_text.specs.Notation.{payload_of};
 ghost use Rattle.scenario.specs.Steps.{meaning_of, meant};
 ghost use Rattle.session.specs.Printed.{Wrote};

@@ -5,8 +5,8 @@ use Rattle.tlv.specs.declared.walk.Entries.{Entries}
 use Rattle.tlv.specs.Entries.{entries}
 
 -- the entries that are still to come
-abbrev pub remaining : Entries → List Entry
-remaining s = entries s.bytes.now s.at s.end
+abbrev pub entries_left : Entries → List Entry
+entries_left s = entries s.bytes.now s.at s.end
 
 -- What a step gives is the first of the entries that were to come; none is given where none was.
 abbrev pub first_of : Option Entry → List Entry → List Entry

@@ -1,6 +1,6 @@
 ghost use Rattle.std.specs.Prelude.{◌≡◌, ◌-◌, length};
 ghost use Rattle.tlv.specs.Entries.{entries};
-ghost use Rattle.tlv.specs.Walk.{remaining, first_of};
+ghost use Rattle.tlv.specs.Walk.{entries_left, first_of};
 ghost use Rattle.std.specs.Iterator.{at_most};
 
 use crate::entries::{Entry, entry_at};
@@ -16,7 +16,7 @@ pub struct Entries<'a> {
 impl<'a> Entries<'a> {
     // The entries of a whole payload.
     pub fn of_payload(bytes: &'a [u8]) -> Entries<'a>
-        ensures { remaining result ≡ entries bytes.now 0 (length bytes.now) }
+        ensures { entries_left result ≡ entries bytes.now 0 (length bytes.now) }
     {
         Entries {
             bytes,
@@ -27,7 +27,7 @@ impl<'a> Entries<'a> {
 
     // The entries that lie in the value of an entry of the same bytes.
     pub fn inside(bytes: &'a [u8], e: Entry) -> Entries<'a>
-        ensures { remaining result ≡ entries bytes.now e.from e.to }
+        ensures { entries_left result ≡ entries bytes.now e.from e.to }
     {
         Entries {
             bytes,
@@ -40,7 +40,7 @@ impl<'a> Entries<'a> {
 impl<'a> Iterator for Entries<'a> {
     type Item = Entry;
 
-    ghost next_gives = { λ s r t. remaining s ≡ first_of r (remaining t) };
+    ghost next_gives = { λ s r t. entries_left s ≡ first_of r (entries_left t) };
 
     ghost remaining = { λ s. at_most (s.end - s.at) };
 

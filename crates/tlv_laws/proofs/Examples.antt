@@ -25,6 +25,6 @@ worked-bytes =
       too_long = refl;
       integer_127 = refl;
       integer_128 = refl;
-      integer-minus_128 = refl;
+      integer_minus_128 = refl;
       integer_65535 = refl;
     }

@@ -37,5 +37,5 @@ pub record WorkedBytes : Type 0 where
   -- integers are kept in the smallest width that holds them: 127, 128, -128 and 65,535
   pub integer_127 : kept_of (pos 127) ≡ 0x7F ∷ []
   pub integer_128 : kept_of (pos 128) ≡ 0x00 ∷ 0x80 ∷ []
-  pub integer-minus_128 : kept_of (negsuc 127) ≡ 0x80 ∷ []
+  pub integer_minus_128 : kept_of (negsuc 127) ≡ 0x80 ∷ []
   pub integer_65535 : kept_of (pos 65535) ≡ 0x00 ∷ 0x00 ∷ 0xFF ∷ 0xFF ∷ []

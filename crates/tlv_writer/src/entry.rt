@@ -1,6 +1,6 @@
-ghost use Rattle.std.specs.Prelude.{◌≡◌, ◌+◌, ◌<◌, ◌≤◌, length};
+ghost use Rattle.std.specs.Prelude.{◌≡◌, ◌<◌, length};
 ghost use Rattle.tlv.specs.Header.{short_header};
-ghost use Rattle.tlv_writer.specs.Write.{append_answer, append_leaves, write_leaves, encoded, written};
+ghost use Rattle.tlv_writer.specs.Write.{append_answer, append_leaves, write_leaves, encoded};
 
 use crate::bytes::{clear, put, put_id, put_length};
 use reason::Reason;
