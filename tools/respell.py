@@ -32,15 +32,19 @@ def camel(name):
     return "".join(p[:1].upper() + p[1:] for p in name.split("-"))
 
 
+def files(pattern):
+    return sorted(path for part in pattern.split() for path in glob.glob("crates/*/" + part, recursive=True))
+
+
 def definitions():
-    """Each own name with whether it is a type and whether it is a lemma (in proofs/)."""
+    """Each own name with what it is where it stands: True for a type."""
     found = {}
-    for path in sorted(glob.glob("crates/*/specs/**/*.antt", recursive=True) + glob.glob("crates/*/proofs/**/*.antt", recursive=True)):
+    for path in files("specs/**/*.antt proofs/**/*.antt"):
         answers = os.path.basename(path) in ("Answers.antt", "Invariants.antt", "Proof.antt") and "/proofs/" in path
         for line in open(path, encoding="utf-8"):
             inner = MEMBER.match(line)
             if inner and not answers:
-                found.setdefault(inner.group(1), set()).add((False, True))
+                found.setdefault(inner.group(1), set()).add(False)
             m = HEAD.match(line.rstrip("\n"))
             if not m or line.startswith(("use ", "mod ", "pub mod", "unfolding ", "--")):
                 continue
@@ -50,18 +54,18 @@ def definitions():
             if answers and re.search(r":\s*(goal|given)\.", rest):
                 continue
             is_type = bool(kind) or bool(re.search(r"(^|→|:)\s*Type 0$", rest.strip()))
-            found.setdefault(name, set()).add((is_type or name[0].isupper(), "/proofs/" in path))
+            found.setdefault(name, set()).add(is_type or name[0].isupper())
     return found
 
 
 def renamings():
     found = definitions()
-    functions = {snake(n) for n, uses in found.items() if any(not t for t, _ in uses) and "-" not in n}
-    types = {camel(n) for n, uses in found.items() if any(t for t, _ in uses)}
+    functions = {snake(n) for n, uses in found.items() if False in uses and "-" not in n}
+    types = {camel(n) for n, uses in found.items() if True in uses}
     names = functions | types | LIBRARY
     new = {}
     for name, uses in found.items():
-        if all(t for t, _ in uses):
+        if False not in uses:
             to = camel(name)
         else:
             parts = [snake(p) for p in name.split("-")]
@@ -100,9 +104,7 @@ def main():
         for a, b in sorted(new.items()):
             print("%s\t%s" % (a, b))
         return
-    paths = glob.glob("crates/*/specs/**/*.antt", recursive=True) + glob.glob("crates/*/proofs/**/*.antt", recursive=True)
-    paths += glob.glob("crates/*/src/**/*.rt", recursive=True)
-    for path in sorted(paths):
+    for path in files("specs/**/*.antt proofs/**/*.antt src/**/*.rt"):
         text = open(path, encoding="utf-8").read()
         after = respelled(text, new, RUST if path.endswith(".rt") else ANTT)
         if after != text:
