@@ -6,7 +6,7 @@ ghost use Rattle.std.specs.Prelude.{◌≡◌, [], OnOk};
 use session::{Session, take_in};
 use std::env;
 use std::fs::File;
-use std::io::Read;
+use std::io::{BufReader, Read};
 use std::process::ExitCode;
 
 // Prints what a line prints, before the next one is read, and makes room for that one.
@@ -21,31 +21,15 @@ fn run_line(rt: &HostRuntime, session: &mut Session, line: &mut Vec<u8>) -> anyh
     Ok(())
 }
 
-fn run_bytes(
-    rt: &HostRuntime,
-    session: &mut Session,
-    line: &mut Vec<u8>,
-    bytes: &[u8],
-) -> anyhow::Result<()> {
-    for b in bytes {
-        if take_in(line, *b)? {
-            run_line(rt, session, line)?;
-        }
-    }
-    Ok(())
-}
-
-// Runs an input to its end, and tells whether a line was bad.
-fn run_input<R: Read>(rt: &HostRuntime, input: &mut R) -> anyhow::Result<bool> {
+// Runs an input to its end, and tells whether a line was bad. It reads bytes, since the reader's `lines`
+// would hold a line of any length whole.
+fn run_input<R: Read + Drop>(rt: &HostRuntime, input: R) -> anyhow::Result<bool> {
     let mut session = Session::new();
     let mut line = Vec::new(rt.alloc());
-    let mut bytes = [0u8; 4096];
-    for _ in 0..u64::MAX {
-        let count = input.read(&mut bytes)?;
-        if count == 0 {
-            break;
+    for b in BufReader::new(rt.alloc(), input)?.bytes() {
+        if take_in(&mut line, b?)? {
+            run_line(rt, &mut session, &mut line)?;
         }
-        run_bytes(rt, &mut session, &mut line, &bytes[0..count])?;
     }
     if !line.is_empty() {
         run_line(rt, &mut session, &mut line)?;
@@ -55,19 +39,17 @@ fn run_input<R: Read>(rt: &HostRuntime, input: &mut R) -> anyhow::Result<bool> {
 
 fn run_file(rt: &HostRuntime, name: &str) -> anyhow::Result<bool> {
     println!(rt; "== {name}")?;
-    let mut file = File::open(rt, name)?;
-    run_input(rt, &mut file)
+    run_input(rt, File::open(rt, name)?)
 }
 
 fn run_all(rt: &HostRuntime) -> anyhow::Result<bool> {
-    let mut bad = false;
-    let mut files = 0usize;
-    for name in env::args(rt)?.skip(1) {
-        files = files.saturating_add(1);
-        bad = run_file(rt, name.as_str())? || bad;
+    let mut names = env::args(rt)?.skip(1).peekable();
+    if names.peek().is_none() {
+        return run_input(rt, rt.stdin());
     }
-    if files == 0 {
-        bad = run_input(rt, &mut rt.stdin())?;
+    let mut bad = false;
+    for name in names {
+        bad |= run_file(rt, name.as_str())?;
     }
     Ok(bad)
 }

@@ -1,55 +1,45 @@
 -- Bytes that repeat the sign can be dropped, however many: the one argument for every width.
-use Rattle.std.proofs.Common.{◌≡◌, ℕ, zero, suc, ◌/◌, ◌<◌, ◌≤◌, Bool, true, false, eqb, ltb, List, [], ◌∷◌, length, get_or, take, drop, ℤ, pos, ◌+ℤ◌, ◌*ℤ◌, sym, refl, ap, ◌∙◌, arith}
-use Rattle.std.proofs.lemmas.List.{get_or-take, length-take-le}
+use Rattle.std.proofs.Common.{◌≡◌, ℕ, zero, suc, ◌/◌, ◌<◌, ◌≤◌, true, false, eqb, ltb, List, [], ◌∷◌, length, get_or, take, drop, ℤ, pos, ◌+ℤ◌, ◌*ℤ◌, sym, refl, ap, ◌∙◌, arith}
+use Rattle.std.proofs.lemmas.List.{get_or-take, get_or_default, length-take-le}
 use Rattle.std.proofs.lemmas.Bool.{and_parts, and_from, eqb-true, eq-eqb, ltb-true, lt-ltb, le-ltb}
 use Rattle.std.proofs.lemmas.Bool.Decides.{nat_tests}
 use Rattle.std.proofs.lemmas.Int.{ints}
-use Rattle.integer.specs.Integer.{signed_byte, onward, signed, fill_of, all_are, spare_half}
+use Rattle.integer.specs.Integer.{signed_byte, onward, signed, fill_of, spare_half}
+use Rattle.std.specs.List.{list_all}
+use Rattle.std.proofs.lemmas.List.Sums.{AllPass-from_list_all, list_all-from_AllPass}
 
 -- The first m bytes only repeat the sign of what is behind them: place by place.
 abbrev pub Filled : ℕ → List ℕ → Type 0
 Filled m xs = (k : ℕ) → k < m → get_or xs k 0 ≡ fill_of (get_or xs m 0)
 
-all_at : (f : ℕ) (xs : List ℕ) → all_are f xs ≡ true → (k : ℕ) → k < length xs → get_or xs k 0 ≡ f
-all_at f [] e k h = absurd (omega arith)
-all_at f (x ∷ xs) e zero h = eqb-true x f (and_parts (eqb x f) (all_are f xs) e).0
-all_at f (x ∷ xs) e (suc k) h = all_at f xs (and_parts (eqb x f) (all_are f xs) e).1 k (omega arith)
-
-all_from : (f : ℕ) (xs : List ℕ) → ((k : ℕ) → k < length xs → get_or xs k 0 ≡ f) → all_are f xs ≡ true
-all_from f [] each = refl
-all_from f (x ∷ xs) each =
-    and_from (eqb x f) (all_are f xs) (eq-eqb x f (each 0 (omega arith))) (all_from f xs (λ k j. each (suc k) (omega arith)))
-
 pub spare_tells : (xs : List ℕ) → spare_half xs ≡ true → (1 < length xs) × Filled (length xs / 2) xs
 unfolding spare_half
 spare_tells xs e =
     let m = length xs / 2 in
-    let f = fill_of (get_or xs m 0) in
-    let p = and_parts (ltb 1 (length xs)) (all_are f (take m xs)) e in
+    let t = λ (x : ℕ). eqb x (fill_of (get_or xs m 0)) in
+    let p = and_parts (ltb 1 (length xs)) (list_all t (take m xs)) e in
     let n : length (take m xs) ≡ m = length-take-le m xs (omega arith) in
-    (ltb-true 1 (length xs) p.0, λ k j. sym (get_or-take m xs k 0 j) ∙ all_at f (take m xs) p.1 k (omega arith))
+    (ltb-true 1 (length xs) p.0, λ k j. sym (get_or-take m xs k 0 j) ∙ eqb-true _ _ (AllPass-from_list_all t (take m xs) p.1 k 0 (omega arith)))
 
 pub spare_from : (xs : List ℕ) → 1 < length xs → Filled (length xs / 2) xs → spare_half xs ≡ true
 unfolding spare_half
 spare_from xs l each =
     let m = length xs / 2 in
-    let f = fill_of (get_or xs m 0) in
+    let t = λ (x : ℕ). eqb x (fill_of (get_or xs m 0)) in
     let n : length (take m xs) ≡ m = length-take-le m xs (omega arith) in
-    and_from (ltb 1 (length xs)) (all_are f (take m xs)) (lt-ltb 1 (length xs) l)
-    (all_from f (take m xs) (λ k j. get_or-take m xs k 0 (omega arith) ∙ each k (omega arith)))
+    and_from (ltb 1 (length xs)) (list_all t (take m xs)) (lt-ltb 1 (length xs) l)
+    (list_all-from_AllPass t (take m xs) (λ k d j. eq-eqb _ _ (get_or-take m xs k d (omega arith) ∙ get_or_default xs k d 0 (omega arith) ∙ each k (omega arith))))
 
 pub spare_short : (xs : List ℕ) → length xs ≤ 1 → spare_half xs ≡ false
 unfolding spare_half
 spare_short xs h = rw (le-ltb 1 (length xs) h)
 
-byte_by : (b : ℕ) (t : Bool) → ltb b 128 ≡ t → b < 256
-    → signed_byte (fill_of b) *ℤ pos 256 +ℤ pos b ≡ signed_byte b
-byte_by b true e h = rw e (omega (arith, ints))
-byte_by b false e h = rw e (omega (arith, ints))
+byte_filled : (b : ℕ) → b < 256 → signed_byte (fill_of b) *ℤ pos 256 +ℤ pos b ≡ signed_byte b
+byte_filled b h = grind (arith, nat_tests, ints)
 
 fill_one : (b : ℕ) (xs : List ℕ) → b < 256 → signed (b ∷ xs) ≡ signed (fill_of b ∷ b ∷ xs)
 unfolding signed
-fill_one b xs h = ap (λ (z : ℤ). onward z xs) (sym (byte_by b (ltb b 128) refl h))
+fill_one b xs h = ap (λ (z : ℤ). onward z xs) (sym (byte_filled b h))
 
 pub fill_fill : (b : ℕ) → fill_of (fill_of b) ≡ fill_of b
 fill_fill b = grind (arith, nat_tests)

@@ -1,11 +1,10 @@
 -- Halving: what it drops, where it stops, and that it leaves the smallest width.
-use Rattle.std.proofs.Common.{◌≡◌, ℕ, zero, suc, ◌+◌, ◌-◌, ◌/◌, ◌<◌, ◌≤◌, Bool, true, false, cond, List, [], ◌∷◌, length, get_or, drop, Some, sym, refl, ap, ◌∙◌, subst, ⊎_elim, arith, length-drop}
+use Rattle.std.proofs.Common.{◌≡◌, ℕ, zero, suc, ◌+◌, ◌-◌, ◌/◌, ◌<◌, ◌≤◌, true, false, cond, List, [], ◌∷◌, length, get_or, drop, Some, sym, ap, ◌∙◌, subst, ⊎_elim, arith, length-drop}
 use Rattle.std.proofs.lemmas.List.{drop-drop, get_or-drop}
 use Rattle.std.proofs.lemmas.Bool.{cond-true, cond-false, cond_both, cases_lt, both_ways}
 use Rattle.std.proofs.lemmas.Bool.Decides.{nat_tests}
 use Rattle.integer.specs.Integer.{signed, is_width, Bytes, spare_half, halved, shortest}
 use Rattle.integer.specs.Laws.{Smallest, Kept}
-use Rattle.integer.specs.Steps.{HalvingStep}
 use Rattle.integer.proofs.Fills.{Filled, spare_tells, spare_from, spare_short, fills_same}
 use Rattle.integer.proofs.Widths.{fewer_filled}
 
@@ -13,8 +12,7 @@ half_rest : (xs : List ℕ) → length (drop (length xs / 2) xs) ≡ length xs -
 half_rest xs = length-drop (length xs / 2) xs
 
 none_dropped : (n : ℕ) (xs : List ℕ) → length xs ≤ 1 → halved n xs ≡ xs
-none_dropped zero xs h = refl
-none_dropped (suc n) xs h = cond-false (spare_half xs) (halved n (drop (length xs / 2) xs)) xs (spare_short xs h)
+none_dropped n xs h = grind (arith, spare_short)
 
 -- Halving as often as it goes does not depend on how often it may.
 enough : (m n : ℕ) (xs : List ℕ) → length xs ≤ suc m → length xs ≤ suc n → halved m xs ≡ halved n xs
@@ -24,7 +22,7 @@ enough (suc m) (suc n) xs p q =
     let l = half_rest xs in
     ap (λ (ys : List ℕ). cond (spare_half xs) ys xs) (enough m n (drop (length xs / 2) xs) (omega arith) (omega arith))
 
-pub shortest_step : (xs : List ℕ) → shortest xs ≡ cond (spare_half xs) (shortest (drop (length xs / 2) xs)) xs
+shortest_step : (xs : List ℕ) → shortest xs ≡ cond (spare_half xs) (shortest (drop (length xs / 2) xs)) xs
 unfolding shortest
 shortest_step [] = sym (cond-false (spare_half []) [] [] (spare_short [] (omega arith)))
 shortest_step (x ∷ xs) =
@@ -33,15 +31,14 @@ shortest_step (x ∷ xs) =
     ap (λ (ys : List ℕ). cond (spare_half (x ∷ xs)) ys (x ∷ xs))
     (enough (length xs) (length (drop h (x ∷ xs))) (drop h (x ∷ xs)) (omega arith) (omega arith))
 
-pub halving_step : (v : List ℕ) (r : Bool) → r ≡ spare_half v → HalvingStep v r
-halving_step v r e =
-    let rest = shortest (drop (length v / 2) v) in
-    record {
-      test = e;
-      size = λ t. (spare_tells v (sym e ∙ t)).0;
-      more = λ t. shortest_step v ∙ cond-true (spare_half v) rest v (sym e ∙ t);
-      done = λ t. shortest_step v ∙ cond-false (spare_half v) rest v (sym e ∙ t);
-    }
+pub spare_some : (xs : List ℕ) → spare_half xs ≡ true → 1 < length xs
+spare_some xs e = (spare_tells xs e).0
+
+pub shortest_more : (xs : List ℕ) → spare_half xs ≡ true → shortest xs ≡ shortest (drop (length xs / 2) xs)
+shortest_more xs e = shortest_step xs ∙ cond-true (spare_half xs) (shortest (drop (length xs / 2) xs)) xs e
+
+pub shortest_done : (xs : List ℕ) → spare_half xs ≡ false → shortest xs ≡ xs
+shortest_done xs e = shortest_step xs ∙ cond-false (spare_half xs) (shortest (drop (length xs / 2) xs)) xs e
 
 -- Halving of a list of any bytes: the end of the same number, not to be halved again.
 pub record Halving (v r : List ℕ) : Type 0 where
@@ -63,9 +60,7 @@ halving_on v r m h b f k =
     }
 
 here : (v : List ℕ) → spare_half v ≡ false → Halving v v
-here v s =
-    let z : length v - length v ≡ 0 = omega arith in
-    record { same = refl; suffix = rw z; shorter = omega arith; stops = s }
+here v s = grind arith
 
 drop-bytes : (m : ℕ) (xs : List ℕ) → Bytes xs → Bytes (drop m xs)
 drop-bytes m xs b k = rw (get_or-drop m xs k 0) (b (m + k))
@@ -79,13 +74,9 @@ halving (suc n) v h s b =
     (λ e. halving_on v (halved n (drop m v)) m (omega arith) (b m) (spare_tells v e).1 (halving n (drop m v) (omega arith) (omega arith) (drop-bytes m v b)))
     (here v)
 
-half_width : (n : ℕ) → is_width n ≡ true → is_width (n - n / 2) ≡ true
+pub some_width : (n : ℕ) → is_width n ≡ true → 0 < n
 unfolding is_width
-half_width n h = grind (arith, nat_tests)
-
-pub some-width : (n : ℕ) → is_width n ≡ true → 0 < n
-unfolding is_width
-some-width n h = grind (arith, nat_tests)
+some_width n h = grind (arith, nat_tests)
 
 -- A smaller width is at most half as large.
 smaller_width : (m n : ℕ) → is_width m ≡ true → is_width n ≡ true → m < n → n / 2 + m ≤ n
@@ -93,11 +84,9 @@ unfolding is_width
 smaller_width m n h k l = grind (arith, nat_tests)
 
 halved-width : (n : ℕ) (v : List ℕ) → is_width (length v) ≡ true → is_width (length (halved n v)) ≡ true
+unfolding is_width
 halved-width zero v h = h
-halved-width (suc n) v h =
-    let m = length v / 2 in
-    cond_both (spare_half v) (halved n (drop m v)) v (λ (r : List ℕ). is_width (length r) ≡ true)
-    (λ e. halved-width n (drop m v) (rw (half_rest v) (half_width (length v) h))) (λ e. h)
+halved-width (suc n) v h = grind (arith, nat_tests, length-drop, halved-width n (drop (length v / 2) v))
 
 smallest_from : (v r : List ℕ) → Bytes r → is_width (length r) ≡ true → Halving v r → Smallest (signed v) r
 smallest_from v r b w h = record {
@@ -107,22 +96,22 @@ smallest_from v r b w h = record {
   least = λ ys by u e.
       ⊎_elim
       (λ l.
-      let s = some-width (length ys) u in
+      let s = some_width (length ys) u in
       let m = length r / 2 in
       let f = fewer_filled r ys m b by s (smaller_width (length ys) (length r) u w l) (e ∙ sym h.same) in
       absurd (both_ways (spare_half r) h.stops (spare_from r (omega arith) f)))
       (λ l. l) (cases_lt (length ys) (length r));
-  again = rw w (ap Some ((halving_step r (spare_half r) refl).done h.stops));
+  again = rw w (ap Some (shortest_done r h.stops));
 }
 
-pub shortest-kept : (v : List ℕ) → Bytes v → is_width (length v) ≡ true → Kept v (shortest v)
+pub shortest_kept : (v : List ℕ) → Bytes v → is_width (length v) ≡ true → Kept v (shortest v)
 unfolding shortest
-shortest-kept v b w =
-    let s = some-width (length v) w in
+shortest_kept v b w =
+    let s = some_width (length v) w in
     let h = halving (length v) v (omega arith) s b in
     let q : Bytes (halved (length v) v) = subst Bytes (sym h.suffix) (drop-bytes (length v - length (halved (length v) v)) v b) in
     record { suffix = h.suffix; smallest = smallest_from v (halved (length v) v) q (halved-width (length v) v w) h }
 
 pub shortest-stops : (v : List ℕ) → Bytes v → is_width (length v) ≡ true → spare_half (shortest v) ≡ false
 unfolding shortest
-shortest-stops v b w = let s = some-width (length v) w in (halving (length v) v (omega arith) s b).stops
+shortest-stops v b w = let s = some_width (length v) w in (halving (length v) v (omega arith) s b).stops

@@ -2,5 +2,4 @@ pub mod Fills
 pub mod Widths
 pub mod Halves
 pub mod Numbers
-pub mod Forms
 pub mod Worked

@@ -1,16 +1,17 @@
 -- The numbers that bytes stand for: their range, and the eight bytes of a number.
-use Rattle.std.proofs.Common.{◌≡◌, ℕ, zero, suc, ◌+◌, ◌-◌, ◌*◌, ◌/◌, ◌%◌, ◌^◌, ◌<◌, ◌≤◌, true, false, ltb, List, [], ◌∷◌, ◌++◌, length, get_or, take, drop, ℤ, pos, negsuc, ◌+ℤ◌, ◌*ℤ◌, Some, sym, refl, ap, ◌∙◌, subst, mul_assoc, pow-suc, arith, length-append, w64, SFits, of_z}
+use Rattle.std.proofs.Common.{◌≡◌, ℕ, zero, suc, ◌+◌, ◌-◌, ◌*◌, ◌/◌, ◌%◌, ◌^◌, ◌<◌, ◌≤◌, true, false, ltb, List, [], ◌∷◌, ◌++◌, length, get_or, take, drop, ℤ, pos, negsuc, ◌+ℤ◌, ◌*ℤ◌, Some, sym, refl, ap, ◌∙◌, subst, mul_assoc, pow-suc, arith, length-append, w8, w64, SFits, of_z, to_z}
 use native.Mathlib.Nat.{pow-succ', pow-le-pow_right, div-div-eq-div-mul}
 use lib.Signed.{mag}
 use Rattle.std.proofs.lemmas.Bool.Decides.{nat_tests}
-use Rattle.std.proofs.lemmas.Int.{ints}
-use Rattle.std.proofs.lemmas.List.{take_more, length-take-le}
+use Rattle.std.proofs.lemmas.Grind.{common_steps}
+use Rattle.std.proofs.lemmas.Int.{ints, to_z-of_z}
+use Rattle.std.specs.Int.{to_be_bytes}
+use Rattle.std.proofs.lemmas.List.{take_more, get_or-take, get_or-drop, get_or_past, length-take, length-take-le}
 use Rattle.std.proofs.lemmas.Bool.{lt-ltb, le-ltb}
-use Rattle.integer.specs.Integer.{signed_byte, onward, signed, is_width, Bytes, low_bytes, eight_bytes, kept_of, number_of, shortest}
-use Rattle.integer.specs.Laws.{Smallest, Kept}
-use Rattle.integer.specs.Steps.{HasWidth, EightBytes}
+use Rattle.integer.specs.Integer.{signed_byte, onward, signed, is_width, Bytes, low_bytes, eight_bytes, kept_of, number_of, spare_half, shortest}
+use Rattle.integer.specs.Laws.{Smallest, Kept, KeptNumber}
 use Rattle.integer.proofs.Widths.{signed_same}
-use Rattle.integer.proofs.Halves.{shortest-kept, shortest-stops, some-width}
+use Rattle.integer.proofs.Halves.{shortest_kept, shortest-stops}
 
 onward_push : (xs : List ℕ) (b : ℕ) (z : ℤ) → onward z (xs ++ (b ∷ [])) ≡ onward z xs *ℤ pos 256 +ℤ pos b
 onward_push [] b z = refl
@@ -19,8 +20,7 @@ onward_push (x ∷ xs) b z = onward_push xs b (z *ℤ pos 256 +ℤ pos x)
 -- One more byte behind a number.
 pub signed_push : (xs : List ℕ) (b : ℕ) → 0 < length xs → signed (xs ++ (b ∷ [])) ≡ signed xs *ℤ pos 256 +ℤ pos b
 unfolding signed
-signed_push [] b h = absurd (omega arith)
-signed_push (x ∷ xs) b h = onward_push xs b (signed_byte x)
+signed_push xs b h = grind (arith, onward_push)
 
 low-length : (n u : ℕ) → length (low_bytes n u) ≡ n
 low-length zero u = refl
@@ -30,10 +30,7 @@ low-some : (n u : ℕ) → 0 < length (low_bytes (suc n) u)
 low-some n u = omega (arith, low-length (suc n) u)
 
 push_bytes : (xs : List ℕ) (b : ℕ) → Bytes xs → b < 256 → Bytes (xs ++ (b ∷ []))
-push_bytes [] b h l zero = l
-push_bytes [] b h l (suc k) = omega arith
-push_bytes (x ∷ xs) b h l zero = h 0
-push_bytes (x ∷ xs) b h l (suc k) = push_bytes xs b (λ i. h (suc i)) l k
+push_bytes xs b h l k = grind (arith, common_steps)
 
 low_bytes_lem : (n u : ℕ) → Bytes (low_bytes n u)
 low_bytes_lem zero u k = omega arith
@@ -95,10 +92,7 @@ eight-width z = rw (eight-length z)
 
 -- The magnitude of a number with bytes behind it.
 step_mag : (z : ℤ) (h x : ℕ) → x < 256 → mag z < h → mag (z *ℤ pos 256 +ℤ pos x) < h * 256
-step_mag (pos n) h x b l = omega (arith, ints)
-step_mag (negsuc n) h x b l =
-    let e : negsuc n *ℤ pos 256 +ℤ pos x ≡ negsuc (n * 256 + 255 - x) = omega (arith, ints) in
-    subst (λ (z : ℤ). mag z < h * 256) (sym e) (omega arith)
+step_mag z h x b l = grind (arith, ints)
 
 onward-mag : (xs : List ℕ) (z : ℤ) (h : ℕ) → Bytes xs → mag z < h → mag (onward z xs) < h * 256 ^ length xs
 onward-mag [] z h b l = omega arith
@@ -120,26 +114,39 @@ pub signed-fits : (xs : List ℕ) → Bytes xs → length xs ≤ 8 → SFits w64
 signed-fits xs b l = record { sfits = signed-mag xs 7 b l }
 
 take-bytes : (n : ℕ) (xs : List ℕ) → Bytes xs → Bytes (take n xs)
-take-bytes zero xs b k = omega arith
-take-bytes (suc n) [] b k = omega arith
-take-bytes (suc n) (x ∷ xs) b zero = b 0
-take-bytes (suc n) (x ∷ xs) b (suc k) = take-bytes n xs (λ i. b (suc i)) k
+take-bytes n xs b k = grind (arith, get_or-take, get_or_past, length-take, b k)
 
 -- Reading byte by byte.
-pub signed_first : (v : List ℕ) → 0 < length v → signed_byte (get_or v 0 0) ≡ signed (take 1 v)
+pub signed_first : (v : List ℕ) → 0 < length v → get_or v 0 0 < 256 → to_z w8 (get_or v 0 0) ≡ signed (take 1 v)
 unfolding signed
-signed_first [] h = absurd (omega arith)
-signed_first (x ∷ xs) h = refl
+signed_first v h b = grind (arith, nat_tests, ints)
 
-pub signed-more : (v : List ℕ) (i : ℕ) → 0 < i → i < length v → signed (take i v) *ℤ pos 256 +ℤ pos (get_or v i 0) ≡ signed (take (i + 1) v)
-signed-more v i s h =
-    let n : length (take i v) ≡ i = length-take-le i v (omega arith) in
-    sym (ap signed (take_more v i 0 h) ∙ signed_push (take i v) (get_or v i 0) (omega arith))
+signed_mag : (v : List ℕ) (i : ℕ) → Bytes v → i + 1 < length v → length v ≤ 8 → mag (signed (take (i + 1) v)) < 2 ^ 55
+signed_mag v i b h l =
+    let n : length (take (i + 1) v) ≡ i + 1 = length-take-le (i + 1) v (omega arith) in
+    signed-mag (take (i + 1) v) 6 (take-bytes (i + 1) v b) (omega arith)
 
-pub signed_room : (v : List ℕ) (i : ℕ) → Bytes v → i < length v → length v ≤ 8 → mag (signed (take i v)) < 2 ^ 55
-signed_room v i b h l =
-    let n : length (take i v) ≡ i = length-take-le i v (omega arith) in
-    signed-mag (take i v) 6 (take-bytes i v b) (omega arith)
+pushed : (z : ℤ) (x : ℕ) → mag z < 2 ^ 55 → x < 256 → to_z w64 (of_z w64 (to_z w64 (of_z w64 (z *ℤ pos 256)) +ℤ pos x)) ≡ z *ℤ pos 256 +ℤ pos x
+pushed z x m l =
+    let f : SFits w64 (z *ℤ pos 256) = record { sfits = omega (arith, ints) } in
+    let g : SFits w64 (z *ℤ pos 256 +ℤ pos x) = record { sfits = step_mag z (2 ^ 55) x l m } in
+    rw (to_z-of_z w64 (z *ℤ pos 256) f) (to_z-of_z w64 (z *ℤ pos 256 +ℤ pos x) g)
+
+-- One more byte is read, and nothing overflows.
+pub signed_room : (v : List ℕ) (i : ℕ) (z : ℤ) → z ≡ signed (take (i + 1) v) → Bytes v → i + 1 < length v → length v ≤ 8 → SFits w64 (z *ℤ pos 256)
+signed_room v i z e b h l =
+    let m : mag z < 2 ^ 55 = subst (λ (y : ℤ). mag y < 2 ^ 55) (sym e) (signed_mag v i b h l) in
+    record { sfits = omega (arith, ints) }
+
+behind_first : (v : List ℕ) (i : ℕ) → i + 1 < length v → get_or (take (length v - 1) (drop 1 v)) i 0 ≡ get_or v (i + 1) 0
+behind_first v i h = get_or-take (length v - 1) (drop 1 v) i 0 (omega arith) ∙ get_or-drop 1 v i 0 ∙ ap (λ (k : ℕ). get_or v k 0) (omega arith)
+
+pub signed_more : (v : List ℕ) (i : ℕ) (z y : ℤ) → z ≡ signed (take (i + 1) v) → y ≡ pos (get_or (take (length v - 1) (drop 1 v)) i 0) → Bytes v → i + 1 < length v → length v ≤ 8
+    → to_z w64 (of_z w64 (to_z w64 (of_z w64 (z *ℤ pos 256)) +ℤ y)) ≡ signed (take (i + 1 + 1) v)
+signed_more v i z y e f b h l =
+    let n : length (take (i + 1) v) ≡ i + 1 = length-take-le (i + 1) v (omega arith) in
+    rw (e, f, behind_first v i h) (pushed (signed (take (i + 1) v)) (get_or v (i + 1) 0) (signed_mag v i b h l) (b (i + 1))
+    ∙ sym (ap signed (take_more v (i + 1) 0 h) ∙ signed_push (take (i + 1) v) (get_or v (i + 1) 0) (omega arith)))
 
 -- Only one list of bytes is the smallest form of a number.
 unique : (z : ℤ) (r s : List ℕ) → Smallest z r → Smallest z s → r ≡ s
@@ -149,18 +156,22 @@ unique z r s p q =
     signed_same r s (omega arith) p.bytes q.bytes (p.number ∙ sym q.number)
 
 pub kept_of-smallest : (z : ℤ) → SFits w64 z → Smallest z (kept_of z)
-kept_of-smallest z f = subst (λ (n : ℤ). Smallest n (kept_of z)) (eight-signed z f) (shortest-kept (eight_bytes z) (eight_bytes_lem z) (eight-width z)).smallest
+kept_of-smallest z f = subst (λ (n : ℤ). Smallest n (kept_of z)) (eight-signed z f) (shortest_kept (eight_bytes z) (eight_bytes_lem z) (eight-width z)).smallest
 
-width-most : (n : ℕ) → is_width n ≡ true → n ≤ 8
+pub width_most : (n : ℕ) → is_width n ≡ true → n ≤ 8
 unfolding is_width
-width-most n h = grind (arith, nat_tests)
+width_most n h = grind (arith, nat_tests)
 
 -- Writing the number that was read gives the kept form.
-pub kept_of-signed : (v : List ℕ) → Bytes v → is_width (length v) ≡ true → kept_of (signed v) ≡ shortest v
-kept_of-signed v b w =
+pub kept_of_signed : (v : List ℕ) → Bytes v → is_width (length v) ≡ true → kept_of (signed v) ≡ shortest v
+kept_of_signed v b w =
     unique (signed v) (kept_of (signed v)) (shortest v)
-    (kept_of-smallest (signed v) (signed-fits v b (width-most (length v) w)))
-    (shortest-kept v b w).smallest
+    (kept_of-smallest (signed v) (signed-fits v b (width_most (length v) w)))
+    (shortest_kept v b w).smallest
+
+-- The same as the code has it, which keeps a number as 64 bits.
+pub written_again : (v : List ℕ) → Bytes v → is_width (length v) ≡ true → kept_of (to_z w64 (of_z w64 (signed v))) ≡ shortest v
+written_again v b w = rw (to_z-of_z w64 (signed v) (signed-fits v b (width_most (length v) w))) (kept_of_signed v b w)
 
 -- Reading the number that was written gives it back.
 pub number_of-kept_of : (z : ℤ) → SFits w64 z → number_of (kept_of z) ≡ Some z
@@ -169,26 +180,24 @@ number_of-kept_of z f =
     let w = s.width in
     rw w (ap Some s.number)
 
-pub eight_laws : (n : ℤ) (b : List ℕ) → SFits w64 n → b ≡ eight_bytes n → EightBytes n b
-eight_laws n b f e =
-    let s = kept_of-smallest n f in
-    let k = shortest-kept (eight_bytes n) (eight_bytes_lem n) (eight-width n) in
-    let l = eight-length n in
-    record {
-      eight = e;
-      size = ap length e ∙ l;
-      some = some-width (length (kept_of n)) s.width;
-      most = width-most (length (kept_of n)) s.width;
-      end = ap (drop (8 - length (kept_of n))) e ∙ sym (k.suffix ∙ ap (λ (i : ℕ). drop (i - length (kept_of n)) (eight_bytes n)) l);
-      short = shortest-stops (eight_bytes n) (eight_bytes_lem n) (eight-width n);
-      read = number_of-kept_of n f;
-      smallest = s;
-    }
+-- The bytes of a number as a processor has them.
+eight_be : (n : ℤ) → to_be_bytes w64 (of_z w64 n) ≡ eight_bytes n
+eight_be n = sym (eight_unsigned n ∙ eight_places (of_z w64 n))
 
-pub width_laws : (v : List ℕ) → Bytes v → is_width (length v) ≡ true → HasWidth v
-width_laws v b w = record {
-  some = some-width (length v) w;
-  most = width-most (length v) w;
-  kept = λ r e. subst (Kept v) (sym e) (shortest-kept v b w);
-  written = kept_of-signed v b w;
-}
+eight_kept : (n : ℤ) → Kept (eight_bytes n) (kept_of n)
+eight_kept n = shortest_kept (eight_bytes n) (eight_bytes_lem n) (eight-width n)
+
+-- The eight bytes of a number are got back from their kept form.
+pub bytes_again : (n : ℤ) → SFits w64 n → eight_bytes (signed (shortest (to_be_bytes w64 (of_z w64 n)))) ≡ to_be_bytes w64 (of_z w64 n)
+bytes_again n f = rw (eight_be n) (ap eight_bytes (eight_kept n).smallest.number ∙ ap eight_bytes (eight-signed n f))
+
+pub kept_number : (n : ℤ) → SFits w64 n → KeptNumber n (shortest (to_be_bytes w64 (of_z w64 n)))
+kept_number n f = rw (eight_be n) (record { form = refl; read = number_of-kept_of n f; smallest = kept_of-smallest n f })
+
+pub held_width : (xs : List ℕ) → eight_bytes (signed (shortest xs)) ≡ xs → is_width (length (shortest xs)) ≡ true
+held_width xs e = subst (λ (ys : List ℕ). is_width (length (shortest ys)) ≡ true) e (eight_kept (signed (shortest xs))).smallest.width
+
+pub held_short : (xs : List ℕ) → eight_bytes (signed (shortest xs)) ≡ xs → spare_half (shortest xs) ≡ false
+held_short xs e =
+    let n = signed (shortest xs) in
+    subst (λ (ys : List ℕ). spare_half (shortest ys) ≡ false) e (shortest-stops (eight_bytes n) (eight_bytes_lem n) (eight-width n))

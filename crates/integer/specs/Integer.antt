@@ -1,5 +1,6 @@
 -- Integers in two's complement, high byte first, of 1, 2, 4 or 8 bytes.
-use Rattle.std.specs.Prelude.{ℕ, zero, suc, ◌-◌, ◌/◌, ◌%◌, ◌^◌, ◌<◌, Bool, true, cond, ◌&&◌, ◌||◌, List, [], ◌∷◌, ◌++◌, length, take, drop, ℤ, pos, negsuc, ◌+ℤ◌, ◌*ℤ◌, Some, None, Option, ◌==◌, nat_lt, slice_index}
+use Rattle.std.specs.Prelude.{ℕ, zero, suc, ◌-◌, ◌/◌, ◌%◌, ◌^◌, ◌<◌, Bool, cond, ◌&&◌, ◌||◌, List, [], ◌∷◌, ◌++◌, length, take, drop, ℤ, pos, negsuc, ◌+ℤ◌, ◌*ℤ◌, Some, None, Option, ◌==◌, nat_lt, slice_index}
+use Rattle.std.specs.List.{list_all}
 
 -- Each element is the value of a byte.
 abbrev pub Bytes : List ℕ → Type 0
@@ -31,14 +32,9 @@ number_of xs = cond (is_width (length xs)) (Some (signed xs)) None
 abbrev pub fill_of : ℕ → ℕ
 fill_of b = cond (nat_lt b 128) 0 255
 
--- Whether all bytes are f.
-abbrev pub all_are : ℕ → List ℕ → Bool
-all_are f [] = true
-all_are f (x ∷ xs) = x == f && all_are f xs
-
 -- Whether there is a high half that only repeats the sign of the low half.
 unfoldable pub spare_half : List ℕ → Bool
-spare_half xs = nat_lt 1 (length xs) && all_are (fill_of (slice_index xs (length xs / 2))) (take (length xs / 2) xs)
+spare_half xs = nat_lt 1 (length xs) && list_all (λ x. x == fill_of (slice_index xs (length xs / 2))) (take (length xs / 2) xs)
 
 -- The bytes without their high half while it is spare, at most n times.
 abbrev pub halved : ℕ → List ℕ → List ℕ

@@ -16,7 +16,6 @@ mod examples;
 pub use examples::worked_integers;
 pub use halving::kept;
 pub use kept_integer::KeptInteger;
-pub use kept_integer::writing::from_number;
 pub use reading::to_number;
 
 #[cfg(test)]
@@ -27,7 +26,7 @@ mod tests {
 
     // `n` is kept as `bytes`, and `wide` is another form of it.
     fn agrees(rt: &impl Abort, n: i64, bytes: &[u8], wide: &[u8]) -> Result<(), Fail> {
-        assert!(rt; from_number(n).as_slice() == bytes);
+        assert!(rt; KeptInteger::from(n).as_slice() == bytes);
         assert!(rt; kept(wide).ok_or("no width")? == bytes);
         assert_eq!(rt; to_number(bytes), Some(n));
         assert_eq!(rt; to_number(wide), Some(n));
@@ -58,7 +57,7 @@ mod tests {
     #[test]
     fn worked(rt: HostRuntime) {
         for n in worked_integers() {
-            assert_eq!(rt; to_number(from_number(n).as_slice()), Some(n));
+            assert_eq!(rt; to_number(KeptInteger::from(n).as_slice()), Some(n));
         }
     }
 

@@ -1,3 +1,3 @@
-mod Reading
-mod Bodies
-mod Pairs
+pub mod Reading
+pub mod Pairs
+pub mod Characters

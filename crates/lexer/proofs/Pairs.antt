@@ -1,32 +1,38 @@
--- Pairs of hexadecimal digits, read from a place on.
-use Rattle.std.proofs.Common.{◌≡◌, ℕ, ◌+◌, ◌<◌, true, false, List, [], ◌∷◌, ◌++◌, length, get_or, drop, Err, ap, ◌∙◌, arith}
-use Rattle.std.proofs.lemmas.List.{at_drop_more, drop_more, drop_all}
-use Rattle.std.proofs.lemmas.Bool.{cond-true, cond-false}
+-- Pairs of hexadecimal digits, behind blanks.
+use Rattle.std.proofs.Common.{◌≡◌, ℕ, suc, ◌+◌, ◌-◌, ◌≤◌, ◌++◌, length, take, Some, Bool, false, true, List, [], ◌∷◌, get_or, drop, refl, sym, ap, ◌∙◌, arith}
+use Rattle.std.specs.List.{prefix_len}
+use Rattle.std.proofs.lemmas.Bool.{cond_both, cond-true, cond-false}
+use Rattle.std.proofs.lemmas.List.{take_rest}
 use Rattle.lexer.specs.declared.fault.Expected.TheVariants.{HexPair}
 use Rattle.lexer.specs.Faults.{stopped}
-use Rattle.lexer.specs.Chars.{is_blank}
+use Rattle.lexer.specs.Chars.{is_blank, rest_of}
+use Rattle.lexer.specs.Words.{skip_blanks}
 use Rattle.lexer.specs.Hex.{hex_on, pair_of, with_byte}
 
-blank-front : (acc : List ℕ) (c : ℕ) (cs : List ℕ) → is_blank c ≡ true → hex_on acc (c ∷ cs) ≡ hex_on acc cs
-blank-front acc c [] e = cond-true _ _ _ e
-blank-front acc c (d ∷ ds) e = cond-true _ _ _ e
+next : (p : ℕ → Bool) (cs : List ℕ) → 1 + prefix_len p cs ≡ suc (prefix_len p cs)
+next p cs = omega arith
 
-pub hex_blank : (acc t : List ℕ) (i : ℕ) → i < length t → is_blank (get_or t i 0) ≡ true → hex_on acc (drop i t) ≡ hex_on acc (drop (i + 1) t)
-hex_blank acc t i h e = at_drop_more (hex_on acc) t i 0 h ∙ blank-front acc (get_or t i 0) (drop (i + 1) t) e
+blank_front : (acc : List ℕ) (c : ℕ) (cs : List ℕ) → is_blank c ≡ true → hex_on acc cs ≡ hex_on acc (c ∷ cs)
+blank_front acc c [] e = sym (cond-true _ _ _ e)
+blank_front acc c (d ∷ ds) e = sym (cond-true _ _ _ e)
 
-pub hex_odd : (acc t : List ℕ) (i : ℕ) → i + 1 ≡ length t → is_blank (get_or t i 0) ≡ false → hex_on acc (drop i t) ≡ Err (stopped HexPair (drop i t))
-hex_odd acc t i h e = rw one (cond-false _ _ _ e)
-  where
-    one : drop i t ≡ get_or t i 0 ∷ []
-    one = drop_more t i 0 (omega arith) ∙ ap (λ cs. get_or t i 0 ∷ cs) (drop_all (i + 1) t (omega arith))
+pub hex_skips : (acc t : List ℕ) → hex_on acc (skip_blanks t) ≡ hex_on acc t
+unfolding rest_of
+hex_skips acc [] = refl
+hex_skips acc (c ∷ cs) =
+    cond_both (is_blank c) (1 + prefix_len is_blank cs) 0 (λ n. hex_on acc (drop n (c ∷ cs)) ≡ hex_on acc (c ∷ cs))
+    (λ e. ap (λ n. hex_on acc (drop n (c ∷ cs))) (next is_blank cs) ∙ (hex_skips acc cs ∙ blank_front acc c cs e)) (λ _. refl)
 
-pub hex_pair : (acc t : List ℕ) (i : ℕ) → i + 1 < length t → is_blank (get_or t i 0) ≡ false →
-    hex_on acc (drop i t)
-    ≡ with_byte (pair_of (get_or t i 0) (get_or t (i + 1) 0)) (stopped HexPair (drop i t)) (λ x. hex_on (acc ++ x ∷ []) (drop (i + 2) t))
-hex_pair acc t i h e = rw two (cond-false _ _ _ e)
-  where
-    twice : drop (i + 1 + 1) t ≡ drop (i + 2) t
-    twice = ap (λ n. drop n t) (omega arith)
+pub skipped : (t : List ℕ) → is_blank (get_or (skip_blanks t) 0 0) ≡ false
+unfolding rest_of
+skipped [] = refl
+skipped (c ∷ cs) =
+    cond_both (is_blank c) (1 + prefix_len is_blank cs) 0 (λ n. is_blank (get_or (drop n (c ∷ cs)) 0 0) ≡ false) (λ _. ap (λ n. is_blank (get_or (drop n (c ∷ cs)) 0 0)) (next is_blank cs) ∙ skipped cs) (λ e. e)
 
-    two : drop i t ≡ get_or t i 0 ∷ get_or t (i + 1) 0 ∷ drop (i + 2) t
-    two = drop_more t i 0 (omega arith) ∙ ap (λ cs. get_or t i 0 ∷ cs) (drop_more t (i + 1) 0 h ∙ ap (λ cs. get_or t (i + 1) 0 ∷ cs) twice)
+pub hex_step : (acc t : List ℕ) (x : ℕ) → 2 ≤ length t → is_blank (get_or t 0 0) ≡ false → pair_of (get_or t 0 0) (get_or t 1 0) ≡ Some x →
+    hex_on (acc ++ x ∷ []) (take (length t - 2) (drop 2 t)) ≡ hex_on acc t
+hex_step acc [] x h e p = absurd (omega arith)
+hex_step acc (a ∷ []) x h e p = absurd (omega arith)
+hex_step acc (a ∷ b ∷ cs) x h e p =
+    ap (hex_on (acc ++ x ∷ [])) (take_rest (a ∷ b ∷ cs) 2)
+    ∙ sym (cond-false (is_blank a) _ _ e ∙ ap (λ o. with_byte o (stopped HexPair (a ∷ b ∷ cs)) (λ y. hex_on (acc ++ y ∷ []) cs)) p)

@@ -40,7 +40,19 @@ placed whole (Ok m) = Ok m
 placed whole (Err e) = Err (blamed whole e)
 
 -- A reader that allocates gives the bytes of the meaning `m`, or its fault; want of memory says nothing of the text.
-abbrev pub Gives : Result (Vec ℕ Global) Fault → Result (List ℕ) Misread → Type 0
+abbrev pub Gives : {E : Type 0} → Result (Vec ℕ Global) (Fault E) → Result (List ℕ) E → Type 0
 Gives (Ok v) m = m ≡ Ok (vec_items v)
 Gives (Err (Wrong e)) m = m ≡ Err e
-Gives (Err NoMemory) m = Unit {0}
+Gives (Err (NoMemory e)) m = Unit {0}
+
+-- what holds of that which is wrong, if something is
+abbrev pub ForWrong : {E : Type 0} → Fault E → (E → Type 0) → Type 0
+ForWrong (Wrong e) P = P e
+ForWrong (NoMemory e) P = Unit {0}
+
+-- the same fault, but for what is wrong, which a call turned
+abbrev pub Turned : {E T : Type 0} → (E → T → Type 0) → Fault E → Fault T → Type 0
+Turned P (Wrong e) (Wrong t) = P e t
+Turned P (Wrong e) (NoMemory a) = ⊥
+Turned P (NoMemory a) (Wrong t) = ⊥
+Turned P (NoMemory a) (NoMemory b) = a ≡ b

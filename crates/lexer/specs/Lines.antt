@@ -1,6 +1,7 @@
 -- A line: its comment, its blanks, and what makes it text.
 use Rattle.std.specs.Prelude.{◌≡◌, ℕ, suc, ◌-◌, Bool, true, false, cond, not, ◌&&◌, ◌||◌, List, [], ◌∷◌, length, take, IsUtf8, ◌==◌, nat_le, nat_lt}
 use Rattle.std.specs.List.{suffix_len}
+use Rattle.std.specs.Char.{is_control}
 use Rattle.lexer.specs.Chars.{is_blank}
 
 -- whether a double quote is open behind `c`
@@ -20,7 +21,11 @@ trimmed_of t = take (length t - suffix_len is_blank t) t
 abbrev pub body_of : List ℕ → List ℕ
 body_of line = trimmed_of (take (comment_at false line) line)
 
--- Whether `c`, behind `previous`, is no part of a control character: those are 0 to 31, tab and carriage
+-- whether a character is no control character, tab and carriage return apart
+abbrev pub plain : ℕ → Bool
+plain c = not (is_control c) || (c == 9 || c == 13)
+
+-- The same told by bytes: whether `c`, behind `previous`, is no part of a control character: those are 0 to 31, tab and carriage
 -- return apart, 127, and 128 to 159, which UTF-8 writes as 194 and the number.
 abbrev pub plain_after : ℕ → ℕ → Bool
 plain_after previous c =

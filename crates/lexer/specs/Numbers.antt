@@ -1,5 +1,6 @@
 -- Numbers as they are written.
 use Rattle.std.specs.Prelude.{ℕ, ◌+◌, ◌-◌, ◌*◌, Bool, true, false, cond, not, List, [], ◌∷◌, ℤ, pos, neg_ℤ, Some, None, Option, ◌==◌, nat_le}
+use Rattle.std.specs.Option.{option_map}
 use Rattle.lexer.specs.Chars.{is_digit, behind}
 
 -- the number of decimal digits that stand behind those of `n`; none where another character is among them
@@ -20,18 +21,10 @@ at_most most (Some n) = cond (nat_le n most) (Some n) None
 abbrev pub number_of : ℕ → List ℕ → Option ℕ
 number_of most t = cond (leads t) (at_most most (digits_on 0 t)) None
 
--- the number below zero, and the number as it is
-abbrev pub minus : Option ℕ → Option ℤ
-minus None = None
-minus (Some n) = Some (neg_ℤ (pos n))
-
-abbrev pub plus : Option ℕ → Option ℤ
-plus None = None
-plus (Some n) = Some (pos n)
-
+-- the text without its sign, if it has one, tells the number below zero
 abbrev pub signed_of : List ℕ → Option (List ℕ) → Option ℤ
-signed_of t None = plus (number_of 9223372036854775807 t)
-signed_of t (Some digits) = minus (number_of 9223372036854775808 digits)
+signed_of t None = option_map pos (number_of 9223372036854775807 t)
+signed_of t (Some digits) = option_map (λ n. neg_ℤ (pos n)) (number_of 9223372036854775808 digits)
 
 -- a signed number of 64 bits
 abbrev pub decimal_of : List ℕ → Option ℤ

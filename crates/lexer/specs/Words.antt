@@ -5,7 +5,7 @@ use Rattle.lexer.specs.declared.chars.Class.TheVariants.{Blank, Word}
 use Rattle.lexer.specs.Chars.{front_of, rest_of}
 
 -- whether a word is the one named
-unfoldable pub same : List ℕ → List ℕ → Bool
+abbrev pub same : List ℕ → List ℕ → Bool
 same word name = bytes_eq word name
 
 abbrev pub skip_blanks : List ℕ → List ℕ

@@ -2,7 +2,8 @@ ghost use Rattle.std.specs.Prelude.{◌≡◌, ◌+◌, length, IfSome};
 ghost use Rattle.std.specs.Option.{option_map};
 ghost use Rattle.lexer.specs.Chars.{in_class, front_of, rest_of, behind};
 
-// A class of characters, by which a text is split.
+// A class of characters, by which a text is split: a closed choice and no closure, because each caller's contract
+// names the class.
 #[derive(Clone, Copy)]
 pub enum Class {
     // Space, tab and carriage return.
@@ -43,12 +44,8 @@ pub fn split(class: Class, text: &[u8]) -> (&[u8], &[u8])
     ensures rest { result.1.now ≡ rest_of class text.now }
     ensures whole { length result.0.now + length result.1.now ≡ length text.now }
 {
-    for (n, c) in text.iter().enumerate() {
-        if !class.holds(*c) {
-            return text.split_at(n);
-        }
-    }
-    text.split_at(text.len())
+    let n = text.iter().take_while(|c| class.holds(**c)).count();
+    text.split_at(n)
 }
 
 // The text behind the character `c`, if it begins with that.
@@ -56,8 +53,8 @@ pub fn strip(c: u8, text: &[u8]) -> Option<&[u8]>
     ensures behind { option_map (λ x. x.now) result ≡ behind c text.now }
     ensures shorter { IfSome result (λ t. length t.now + 1 ≡ length text.now) }
 {
-    match text.split_first() {
-        Some((first, rest)) if *first == c => Some(rest),
+    match text {
+        [first, rest @ ..] if *first == c => Some(rest),
         _ => None,
     }
 }

@@ -1,10 +1,11 @@
-ghost use Rattle.std.specs.Prelude.{◌≡◌};
-ghost use Rattle.lexer.specs.Faults.{stopped, blamed, part_of};
+ghost use Rattle.std.specs.Prelude.{◌≡◌, Some, alloc_error};
+ghost use Rattle.lexer.specs.Faults.{stopped, blamed, part_of, ForWrong, Turned};
 ghost use Rattle.lexer.specs.Wording.{words_of};
 ghost use Rattle.lexer.specs.declared.fault.Fault.TheVariants.{Wrong, NoMemory};
 
 use crate::chars::{Class, split};
 use std::alloc::{AllocError, AllocFailed};
+use std::fmt;
 
 // What should have stood in a line.
 #[derive(Clone, Copy)]
@@ -30,12 +31,12 @@ pub enum Expected {
     ShorterValue,
 }
 
-impl Expected {
-    // In words for people.
-    pub fn words(self) -> &'static str
-        ensures { result.now ≡ words_of self }
-    {
-        match self {
+// In words for people.
+impl fmt::Display for Expected {
+    ghost output = { λ e. Some (words_of e) };
+
+    fn fmt<W: fmt::Write>(&self, f: &mut fmt::Formatter<W>) -> fmt::Result {
+        f.write_str(match self {
             Expected::Text => "text expected, UTF-8 without control characters",
             Expected::ShorterLine => "shorter line expected, up to 16384 bytes",
             Expected::Step => "unknown step",
@@ -55,7 +56,7 @@ impl Expected {
             Expected::Blank => "blank expected",
             Expected::End => "end of the line expected",
             Expected::ShorterValue => "shorter value expected, up to 16777215 bytes",
-        }
+        })
     }
 }
 
@@ -72,13 +73,7 @@ impl BadLine {
     pub fn part(self, line: &[u8]) -> &[u8]
         ensures { result.now ≡ part_of self line.now }
     {
-        let from = self.from;
-        let to = self.to;
-        if from <= to && to <= line.len() {
-            &line[from..to]
-        } else {
-            &[]
-        }
+        line.get(self.from..self.to).unwrap_or(&[])
     }
 }
 
@@ -104,8 +99,7 @@ pub fn blame(misread: Misread, whole: &[u8]) -> BadLine
     ensures { result ≡ blamed whole.now misread }
 {
     let from = whole.len().saturating_sub(misread.left);
-    let (_, rest) = whole.split_at(from);
-    let (word, _) = split(Class::Word, rest);
+    let (word, _) = split(Class::Word, &whole[from..]);
     BadLine {
         expected: misread.expected,
         from,
@@ -113,33 +107,46 @@ pub fn blame(misread: Misread, whole: &[u8]) -> BadLine
     }
 }
 
-// Why a text gave no bytes.
+// Why a text gave no bytes: what is wrong with it, or want of memory.
 #[derive(Clone, Copy)]
-pub enum Fault {
-    Wrong(Misread),
-    NoMemory,
+pub enum Fault<E> {
+    Wrong(E),
+    NoMemory(AllocError),
 }
 
-impl From<Misread> for Fault {
+impl<E> Fault<E> {
+    // The same fault, where `turn` makes another of what is wrong.
+    pub fn map<T, F: FnOnce(E) -> T>(self, turn: F) -> Fault<T>
+        requires { ForWrong self (F.pre turn) }
+        ensures { Turned (F.post turn) self result }
+    {
+        match self {
+            Fault::Wrong(wrong) => Fault::Wrong(turn(wrong)),
+            Fault::NoMemory(e) => Fault::NoMemory(e),
+        }
+    }
+}
+
+impl From<Misread> for Fault<Misread> {
     ghost from_gives = { λ e r. r ≡ Wrong e };
 
-    fn from(e: Misread) -> Fault {
+    fn from(e: Misread) -> Fault<Misread> {
         Fault::Wrong(e)
     }
 }
 
-impl From<AllocError> for Fault {
-    ghost from_gives = { λ _ r. r ≡ NoMemory };
+impl<E> From<AllocError> for Fault<E> {
+    ghost from_gives = { λ e r. r ≡ NoMemory e };
 
-    fn from(_e: AllocError) -> Fault {
-        Fault::NoMemory
+    fn from(e: AllocError) -> Fault<E> {
+        Fault::NoMemory(e)
     }
 }
 
-impl<T: Drop> From<AllocFailed<T>> for Fault {
-    ghost from_gives = { λ _ r. r ≡ NoMemory };
+impl<E, T: Drop> From<AllocFailed<T>> for Fault<E> {
+    ghost from_gives = { λ _ r. r ≡ NoMemory alloc_error };
 
-    fn from(_e: AllocFailed<T>) -> Fault {
-        Fault::NoMemory
+    fn from(failed: AllocFailed<T>) -> Fault<E> {
+        Fault::NoMemory(AllocError::from(failed))
     }
 }

@@ -1,76 +1,58 @@
-ghost use Rattle.std.specs.Prelude.{◌≡◌, false, Decides};
-ghost use Rattle.lexer.specs.Lines.{quoted_behind, comment_at, trimmed_of, body_of, plain_after, plain_from, Text};
+ghost use Rattle.std.specs.Prelude.{◌≡◌, false, take, chars, Decides};
+ghost use Rattle.std.specs.List.{list_all};
+ghost use Rattle.lexer.specs.Lines.{comment_at, trimmed_of, body_of, plain, Text};
 
 use crate::chars::Class;
 
 // The most bytes that a line may have.
 pub const LONGEST_LINE: usize = 16_384;
 
-fn toggled(quoted: bool, c: u8) -> bool
-    ensures { result ≡ quoted_behind quoted c }
-{
-    if c == b'"' { !quoted } else { quoted }
-}
-
-// How many bytes stand before the comment: a `#` outside double quotes begins one.
-fn comment_at(line: &[u8]) -> usize
-    ensures { result ≡ comment_at false line.now }
+// The line up to its comment: a `#` outside double quotes begins one.
+fn without_comment(line: &[u8]) -> &[u8]
+    ensures { result.now ≡ take (comment_at false line.now) line.now }
 {
     let mut quoted = false;
     for (n, c) in line.iter().enumerate() {
-        if *c == b'#' && !quoted {
-            return n;
+        match c {
+            b'"' => quoted = !quoted,
+            b'#' if !quoted => return &line[..n],
+            _ => {}
         }
-        quoted = toggled(quoted, *c);
     }
-    line.len()
+    line
 }
 
 // The text without the blanks at its end.
-fn trimmed(text: &[u8]) -> &[u8]
+fn trimmed(mut text: &[u8]) -> &[u8]
     ensures { result.now ≡ trimmed_of text.now }
 {
-    let mut n = text.len();
-    while n > 0 && Class::Blank.holds(text[n - 1]) {
-        n -= 1;
+    while let [rest @ .., last] = text
+        && Class::Blank.holds(*last)
+    {
+        text = rest;
     }
-    &text[0..n]
+    text
 }
 
 // The line without its comment and without blanks at the end.
 pub fn uncommented(line: &[u8]) -> &[u8]
     ensures { result.now ≡ body_of line.now }
 {
-    trimmed(&line[0..comment_at(line)])
+    trimmed(without_comment(line))
 }
 
-fn plain_after(previous: u8, c: u8) -> bool
-    ensures { result ≡ plain_after previous c }
+// Whether a text has no control character, tab and carriage return apart.
+fn is_plain(text: &str) -> bool
+    ensures { result ≡ list_all plain (chars text.now) }
 {
-    if c < 32 {
-        c == b'\t' || c == b'\r'
-    } else {
-        c != 127 && (previous != 194 || c < 128 || c > 159)
-    }
-}
-
-// Whether none of the bytes belongs to a control character, tab and carriage return apart.
-fn is_plain(line: &[u8]) -> bool
-    ensures { result ≡ plain_from 0 line.now }
-{
-    let mut previous = 0;
-    for c in line {
-        if !plain_after(previous, *c) {
-            return false;
-        }
-        previous = *c;
-    }
-    true
+    text.chars()
+        .all(|c| !c.is_control() || c == '\t' || c == '\r')
 }
 
 // Whether the bytes are text: UTF-8, with no control character but tab and carriage return.
+#[tactic(auto, using(crate::proofs::Characters::text_told, crate::proofs::Characters::not_told))]
 pub fn is_text(line: &[u8]) -> bool
     ensures { Decides result (Text line.now) }
 {
-    is_plain(line) && std::str::from_utf8(line).is_ok()
+    std::str::from_utf8(line).is_ok_and(is_plain)
 }

@@ -1,62 +1,28 @@
-ghost use Rattle.std.specs.Prelude.{◌≡◌, ◌≤◌, pos, neg_ℤ, IfSome};
-ghost use Rattle.lexer.specs.Numbers.{digits_on, leads, at_most, number_of, decimal_of};
+ghost use Rattle.std.specs.Prelude.{◌≡◌, ◌≤◌, ◌&&◌, IfSome, slice_index};
+ghost use Rattle.lexer.specs.Chars.{is_digit};
+ghost use Rattle.lexer.specs.Numbers.{leads, number_of, decimal_of};
 
-use crate::chars::{Class, strip};
+use crate::chars::strip;
 
-// The number of a text of decimal digits, at most `most`.
-fn digits(text: &[u8], most: u64) -> Option<u64>
-    ensures says { result ≡ at_most most (digits_on 0 text.now) }
-    ensures small { IfSome result (λ n. n ≤ most) }
-{
-    let mut n: u64 = 0;
-    for c in text {
-        if !Class::Digit.holds(*c) {
-            return None;
-        }
-        let next = n as u128 * 10 + (*c - b'0') as u128;
-        if next > most as u128 {
-            return None;
-        }
-        n = next as u64;
-    }
-    Some(n)
-}
-
-// Whether a number may begin so: 0 stands alone.
+// Whether a number may begin so: with a digit, and 0 stands alone.
+#[tactic(auto, unfolding(crate::specs::Numbers::leads))]
 fn leads_well(text: &[u8]) -> bool
-    ensures { result ≡ leads text.now }
+    ensures { result ≡ (leads text.now && is_digit (slice_index text.now 0)) }
 {
-    match text {
-        [] => false,
-        [_] => true,
-        [c, ..] => *c != b'0',
-    }
+    matches!(text, [b'0'] | [b'1'..=b'9', ..])
 }
 
 // The number that the whole text writes in decimal, without leading zeros, and at most `most`.
+#[tactic(auto, using(crate::proofs::Reading::badly_led, crate::proofs::Reading::not_text))]
 pub fn number(text: &[u8], most: u64) -> Option<u64>
     ensures says { result ≡ number_of most text.now }
     ensures small { IfSome result (λ n. n ≤ most) }
 {
-    if leads_well(text) {
-        digits(text, most)
-    } else {
-        None
+    if !leads_well(text) {
+        return None;
     }
-}
-
-fn positive(n: u64) -> i64
-    requires { n ≤ 9223372036854775807 }
-    ensures { result ≡ pos n }
-{
-    n as i64
-}
-
-fn negative(n: u64) -> i64
-    requires { n ≤ 9223372036854775808 }
-    ensures { result ≡ neg_ℤ (pos n) }
-{
-    (0 - n as i128) as i64
+    let digits = std::str::from_utf8(text).ok()?;
+    digits.parse().ok().filter(|n| *n <= most)
 }
 
 // The signed number of 64 bits that the whole text writes.
@@ -64,7 +30,7 @@ pub fn decimal(text: &[u8]) -> Option<i64>
     ensures { result ≡ decimal_of text.now }
 {
     match strip(b'-', text) {
-        Some(rest) => Some(negative(number(rest, 1 << 63)?)),
-        None => Some(positive(number(text, (1 << 63) - 1)?)),
+        Some(digits) => i64::try_from(-i128::from(number(digits, u64::MAX)?)).ok(),
+        None => i64::try_from(number(text, u64::MAX)?).ok(),
     }
 }

@@ -1,15 +1,9 @@
-ghost use Rattle.std.specs.Prelude.{◌≡◌, ◌≤◌, length};
+ghost use Rattle.std.specs.Prelude.{◌≡◌, ◌≤◌, ℕ, Option, Some, None, length, refl};
 ghost use Rattle.lexer.specs.Numbers.{number_of};
-ghost use Rattle.lexer.specs.Words.{same, skip_blanks, word_of, behind_word};
+ghost use Rattle.lexer.specs.Words.{skip_blanks, word_of, behind_word};
 
 use crate::chars::{Class, split};
 use crate::numbers::number;
-
-pub fn is_word(word: &[u8], name: &[u8]) -> bool
-    ensures { result ≡ same word.now name.now }
-{
-    word == name
-}
 
 pub fn skip_blanks(text: &[u8]) -> &[u8]
     ensures skips { result.now ≡ skip_blanks text.now }
@@ -27,16 +21,54 @@ pub fn next_word(text: &[u8]) -> (&[u8], &[u8])
     (word, skip_blanks(rest))
 }
 
-// A number of 16 bits.
-pub fn small_number(text: &[u8]) -> Option<u16>
-    ensures { result ≡ number_of 65535 text.now }
-{
-    Some(number(text, 65_535)? as u16)
+// An unsigned type that the number of a text is narrowed to.
+pub trait Narrow: Sized {
+    // The largest number of the type.
+    const MOST: u64;
+
+    ghost MOST: { ℕ };
+
+    // A number, where there is one, as a value of the type.
+    ghost narrowed: { Option ℕ → Option Self };
+
+    fn narrow(n: u64) -> Self
+        requires { n ≤ MOST }
+        ensures { Some result ≡ narrowed (Some n) };
+
+    ghost none: { narrowed None ≡ None };
 }
 
-// A number of 32 bits.
-pub fn large_number(text: &[u8]) -> Option<u32>
-    ensures { result ≡ number_of 4294967295 text.now }
+impl Narrow for u16 {
+    const MOST: u64 = 65_535;
+
+    ghost MOST = { 65535 };
+
+    ghost narrowed = { λ n. n };
+
+    fn narrow(n: u64) -> u16 {
+        n as u16
+    }
+
+    ghost none = { refl };
+}
+
+impl Narrow for u32 {
+    const MOST: u64 = 4_294_967_295;
+
+    ghost MOST = { 4294967295 };
+
+    ghost narrowed = { λ n. n };
+
+    fn narrow(n: u64) -> u32 {
+        n as u32
+    }
+
+    ghost none = { refl };
+}
+
+// The number that the whole text writes, if it is one of the type.
+pub fn narrow_number<N: Narrow>(text: &[u8]) -> Option<N>
+    ensures { result ≡ N.narrowed (number_of N.MOST text.now) }
 {
-    Some(number(text, 4_294_967_295)? as u32)
+    Some(N::narrow(number(text, N::MOST)?))
 }

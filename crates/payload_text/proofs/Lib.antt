@@ -1,2 +1,1 @@
-mod Encodes
-mod Ahead
+pub mod Ahead

@@ -1,9 +1,7 @@
 -- THE PAYLOAD NOTATION. A reader takes a text, and gives bytes and the text that is left behind them, or tells
 -- what it expected and where.
-use Rattle.std.specs.Prelude.{◌≡◌, ℕ, zero, suc, Bool, true, false, cond, not, List, [], ◌∷◌, ◌++◌, length, ℤ, Some, None, Ok, Err, vec_items, codes, Option, Result, Vec, ◌==◌, nat_lt}
-use Rattle.std.specs.Borrow.{Bor}
+use Rattle.std.specs.Prelude.{◌≡◌, ◌<◌, ℕ, zero, suc, Bool, false, cond, not, List, [], ◌∷◌, ◌++◌, length, ℤ, Some, None, Ok, Err, vec_items, codes, Option, Result, ◌==◌, nat_lt}
 use Rattle.std.specs.Option.{ok_or}
-use Rattle.std.specs.declared.alloc.Global.{Global}
 use Rattle.tlv.specs.declared.header.Kind.{Kind}
 use Rattle.tlv.specs.declared.header.Kind.TheVariants.{ObjectInstance, ResourceInstance, MultipleResource, Resource}
 use Rattle.integer.specs.Integer.{kept_of}
@@ -15,8 +13,6 @@ use Rattle.lexer.specs.declared.fault.Misread.{Misread}
 use Rattle.lexer.specs.declared.fault.Fault.{Fault}
 use Rattle.lexer.specs.declared.fault.Fault.TheVariants.{Wrong, NoMemory}
 use Rattle.lexer.specs.declared.fault.BadLine.{BadLine}
-use Rattle.payload_text.specs.declared.notation.NotationFault.{NotationFault}
-use Rattle.payload_text.specs.declared.notation.NotationFault.TheVariants as fault
 use Rattle.payload_text.specs.declared.piece.Piece.{Piece}
 use Rattle.lexer.specs.Chars.{is_value, is_closing, front_of, rest_of, behind}
 use Rattle.lexer.specs.Faults.{stopped, then, placed}
@@ -28,13 +24,17 @@ use Rattle.lexer.specs.Words.{same, skip_blanks}
 abbrev pub Part : Type 0
 Part = Result (List ℕ × List ℕ) Misread
 
+-- whether a text has a first character, of which `P` holds
+abbrev pub begins : (ℕ → Bool) → List ℕ → Bool
+begins P [] = false
+begins P (c ∷ cs) = P c
+
 -- VALUES. Behind a value or a closing bracket comes a blank, a closing bracket, or the end.
-unfoldable pub ends_here : List ℕ → Bool
-ends_here [] = true
-ends_here (c ∷ cs) = not (is_value c)
+abbrev pub end_of : List ℕ → Result (Unit {0}) Misread
+end_of rest = cond (begins is_value rest) (Err (stopped expected.Blank rest)) (Ok tt)
 
 abbrev pub ended : List ℕ → List ℕ → Part
-ended bs rest = cond (ends_here rest) (Ok (bs, rest)) (Err (stopped expected.Blank rest))
+ended bs rest = then (end_of rest) (λ u. Ok (bs, rest))
 
 -- the bytes up to the closing quote
 abbrev pub quoted_of : List ℕ → Part
@@ -52,20 +52,20 @@ told t (Err e) = Err (stopped e.expected t)
 
 -- a number in its kept form
 abbrev pub kept_bytes : List ℕ → Option ℤ → Result (List ℕ) Misread
-kept_bytes t None = Err (stopped expected.Value t)
-kept_bytes t (Some z) = Ok (kept_of z)
+kept_bytes word None = Err (stopped expected.Value word)
+kept_bytes word (Some z) = Ok (kept_of z)
 
-abbrev pub hex_or_decimal : List ℕ → List ℕ → Option (List ℕ) → Result (List ℕ) Misread
-hex_or_decimal t word None = kept_bytes t (decimal_of word)
-hex_or_decimal t word (Some digits) = told t (hex_of digits)
+abbrev pub hex_or_decimal : List ℕ → Option (List ℕ) → Result (List ℕ) Misread
+hex_or_decimal word None = kept_bytes word (decimal_of word)
+hex_or_decimal word (Some digits) = hex_of digits
 
--- a word that the text `t` begins with: x and pairs of hexadecimal digits, or a number
-abbrev pub plain_bytes : List ℕ → List ℕ → Result (List ℕ) Misread
-plain_bytes t word = hex_or_decimal t word (behind 120 word)
+-- a word: x and pairs of hexadecimal digits, or a number
+abbrev pub plain_bytes : List ℕ → Result (List ℕ) Misread
+plain_bytes word = hex_or_decimal word (behind 120 word)
 
 -- a value without quotes ends before a blank or a closing bracket
 abbrev pub plain_or_quoted : List ℕ → Option (List ℕ) → Part
-plain_or_quoted t None = with_rest (plain_bytes t (front_of Value t)) (rest_of Value t)
+plain_or_quoted t None = with_rest (told t (plain_bytes (front_of Value t))) (rest_of Value t)
 plain_or_quoted t (Some inside) = quoted_of inside
 
 abbrev pub value_of : List ℕ → Part
@@ -95,9 +95,9 @@ element_of t =
 abbrev pub Reader : Type 0
 Reader = List ℕ → Part
 
-unfoldable pub goes_on : List ℕ → Bool
-goes_on [] = false
-goes_on (c ∷ cs) = not (is_closing c)
+-- another item begins where neither the end is nor a closing bracket
+abbrev pub goes_on : List ℕ → Bool
+goes_on t = begins (λ c. not (is_closing c)) t
 
 -- `acc` and the bytes of the items from here on; `more` goes on behind the first
 abbrev pub items_at : Reader → (List ℕ → List ℕ → Part) → List ℕ → List ℕ → Part
@@ -161,19 +161,9 @@ bytes_of t = cond (same t (codes "-")) (Ok []) (cond (has_mark t) (entries_of t)
 abbrev pub payload_of : List ℕ → Result (List ℕ) BadLine
 payload_of t = placed t (bytes_of t)
 
--- a payload's bytes, as code gives them; want of memory says nothing of the text
-abbrev pub GivesPayload : Result (Vec ℕ Global) NotationFault → Result (List ℕ) BadLine → Type 0
-GivesPayload (Ok v) m = m ≡ Ok (vec_items v)
-GivesPayload (Err (fault.Bad b)) m = m ≡ Err b
-GivesPayload (Err fault.NoMemory) m = Unit {0}
-
--- a reader in code gives such a part, or want of memory, which says nothing of the text
-abbrev pub GivesPart : Result Piece Fault → Part → Type 0
-GivesPart (Ok p) m = m ≡ Ok (vec_items p.bytes, p.rest.now)
-GivesPart (Err (Wrong e)) m = m ≡ Err e
-GivesPart (Err NoMemory) m = Unit {0}
-
--- a number and the text behind it, as code gives them
-abbrev pub lowered : Result (ℕ × Bor (List ℕ)) Misread → Result (ℕ × List ℕ) Misread
-lowered (Ok n) = Ok (n.0, n.1.now)
-lowered (Err e) = Err e
+-- a reader in code gives such a part, with fewer than `n` bytes of text left (so no instance of `Gives`, which tells of
+-- bytes alone); or its fault, or want of memory, which says nothing of the text
+abbrev pub GivesPart : Result Piece (Fault Misread) → Part → ℕ → Type 0
+GivesPart (Ok p) m n = (m ≡ Ok (vec_items p.bytes, p.rest.now)) × (length p.rest.now < n)
+GivesPart (Err (Wrong e)) m n = m ≡ Err e
+GivesPart (Err (NoMemory e)) m n = Unit {0}

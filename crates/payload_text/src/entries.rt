@@ -1,27 +1,25 @@
-ghost use Rattle.std.specs.Prelude.{◌<◌, length, IfOk};
+ghost use Rattle.std.specs.Prelude.{length};
 ghost use Rattle.payload_text.specs.Notation.{element_of, resource_of, instance_of, payload_entry_of, GivesPart};
 
-use crate::entry::{numbered, pack};
+use crate::entry::numbered;
 use crate::items::{Item, block};
 use crate::piece::Piece;
 use crate::value::value;
-use lexer::{Expected, Fault, stopped_at, strip};
+use lexer::{Expected, Fault, Misread, stopped_at, strip};
 use std::alloc::Global;
-use tlv::Kind;
+use tlv::{Kind, Tag};
 
 // A Resource Instance: a number, a colon and a value.
 pub struct Element;
 
 impl Item for Element {
-    ghost meaning = { λ _. element_of };
+    ghost meaning = { element_of };
 
-    fn read<'a>(&self, heap: Global, text: &'a [u8]) -> Result<Piece<'a>, Fault> {
+    fn read(heap: Global, text: &[u8]) -> Result<Piece<'_>, Fault<Misread>> {
         let (id, rest) = numbered(text)?;
-        let Some(inside) = strip(b':', rest) else {
-            return Err(Fault::Wrong(stopped_at(Expected::Colon, rest)));
-        };
-        let Piece { bytes, rest } = value(heap, inside)?;
-        pack(heap, Kind::ResourceInstance, id, text, &bytes, rest)
+        let inside = strip(b':', rest).ok_or(stopped_at(Expected::Colon, rest))?;
+        let kind = Kind::ResourceInstance;
+        value(heap, inside)?.into_entry(heap, Tag { kind, id }, text)
     }
 }
 
@@ -29,45 +27,42 @@ impl Item for Element {
 pub struct Resource;
 
 impl Item for Resource {
-    ghost meaning = { λ _. resource_of };
+    ghost meaning = { resource_of };
 
-    fn read<'a>(&self, heap: Global, text: &'a [u8]) -> Result<Piece<'a>, Fault> {
+    fn read(heap: Global, text: &[u8]) -> Result<Piece<'_>, Fault<Misread>> {
         let (id, rest) = numbered(text)?;
         if let Some(inside) = strip(b':', rest) {
-            let Piece { bytes, rest } = value(heap, inside)?;
-            return pack(heap, Kind::Resource, id, text, &bytes, rest);
+            let kind = Kind::Resource;
+            return value(heap, inside)?.into_entry(heap, Tag { kind, id }, text);
         }
-        let Some(inside) = strip(b'[', rest) else {
-            return Err(Fault::Wrong(stopped_at(Expected::ColonOrBracket, rest)));
-        };
-        let Piece { bytes, rest } = block(&Element, b']', Expected::ClosingBracket, heap, inside)?;
-        pack(heap, Kind::MultipleResource, id, text, &bytes, rest)
+        let inside = strip(b'[', rest).ok_or(stopped_at(Expected::ColonOrBracket, rest))?;
+        let elements = block::<Element>(b']', Expected::ClosingBracket, heap, inside)?;
+        let kind = Kind::MultipleResource;
+        elements.into_entry(heap, Tag { kind, id }, text)
     }
 }
 
 // An Object Instance behind its @: a number, and Resources in curly brackets.
-fn instance<'a>(heap: Global, text: &'a [u8]) -> Result<Piece<'a>, Fault>
-    ensures gives { GivesPart result (instance_of text.now) }
-    ensures shorter { IfOk result (λ p. length p.rest.now < length text.now) }
+fn instance(heap: Global, text: &[u8]) -> Result<Piece<'_>, Fault<Misread>>
+    ensures { GivesPart result (instance_of text.now) (length text.now) }
 {
     let (id, rest) = numbered(text)?;
-    let Some(inside) = strip(b'{', rest) else {
-        return Err(Fault::Wrong(stopped_at(Expected::OpeningBrace, rest)));
-    };
-    let Piece { bytes, rest } = block(&Resource, b'}', Expected::ClosingBrace, heap, inside)?;
-    pack(heap, Kind::ObjectInstance, id, text, &bytes, rest)
+    let inside = strip(b'{', rest).ok_or(stopped_at(Expected::OpeningBrace, rest))?;
+    let resources = block::<Resource>(b'}', Expected::ClosingBrace, heap, inside)?;
+    let kind = Kind::ObjectInstance;
+    resources.into_entry(heap, Tag { kind, id }, text)
 }
 
 // What stands in a payload: an Object Instance or a Resource.
 pub struct PayloadEntry;
 
 impl Item for PayloadEntry {
-    ghost meaning = { λ _. payload_entry_of };
+    ghost meaning = { payload_entry_of };
 
-    fn read<'a>(&self, heap: Global, text: &'a [u8]) -> Result<Piece<'a>, Fault> {
+    fn read(heap: Global, text: &[u8]) -> Result<Piece<'_>, Fault<Misread>> {
         match strip(b'@', text) {
             Some(rest) => instance(heap, rest),
-            None => Resource.read(heap, text),
+            None => Resource::read(heap, text),
         }
     }
 }

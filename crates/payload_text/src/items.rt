@@ -1,56 +1,47 @@
-ghost use Rattle.std.specs.Prelude.{◌≡◌, ◌<◌, ◌≤◌, length, IfOk};
-ghost use Rattle.payload_text.specs.Notation.{Reader, goes_on, items_of, block_of, GivesPart};
+ghost use Rattle.std.specs.Prelude.{◌+◌, length};
+ghost use Rattle.payload_text.specs.Notation.{Reader, items_of, block_of, GivesPart};
 
 use crate::piece::Piece;
 use crate::value::end;
-use lexer::{Class, Expected, Fault, skip_blanks, stopped_at, strip};
+use lexer::{Class, Expected, Fault, Misread, skip_blanks, stopped_at, strip};
 use std::alloc::Global;
 
 // What stands in a sequence.
 pub trait Item {
-    ghost meaning: { Self → Reader };
+    // What a text is read as.
+    ghost meaning: { Reader };
 
-    fn read<'a>(&self, heap: Global, text: &'a [u8]) -> Result<Piece<'a>, Fault>
-        ensures gives { GivesPart result (meaning self.now text.now) }
-        ensures shorter { IfOk result (λ p. length p.rest.now < length text.now) };
-}
-
-// Whether another item begins here: neither the end nor a closing bracket.
-fn goes_on(text: &[u8]) -> bool
-    ensures { result ≡ goes_on text.now }
-{
-    !text.is_empty() && !Class::Closing.holds(text[0])
+    // The allocator and the text come apart, because the text is another at each step.
+    fn read(heap: Global, text: &[u8]) -> Result<Piece<'_>, Fault<Misread>>
+        ensures { GivesPart result (meaning text.now) (length text.now) };
 }
 
 // Items up to a closing bracket or the end.
-pub fn items<'a, I: Item>(item: &I, heap: Global, text: &'a [u8]) -> Result<Piece<'a>, Fault>
-    ensures gives { GivesPart result (items_of (I.Item.meaning item.now) text.now) }
-    ensures within { IfOk result (λ p. length p.rest.now ≤ length text.now) }
+#[tactic(auto, using(crate::proofs::Ahead::ahead_start))]
+pub fn items<I: Item>(heap: Global, text: &[u8]) -> Result<Piece<'_>, Fault<Misread>>
+    ensures { GivesPart result (items_of I.meaning text.now) (length text.now + 1) }
 {
     let mut bytes = Vec::new(heap);
     let mut rest = skip_blanks(text);
-    while goes_on(rest) {
-        let piece = item.read(heap, rest)?;
-        bytes.extend_from_slice(&piece.bytes)?;
-        rest = skip_blanks(piece.rest);
+    while rest.first().is_some_and(|c| !Class::Closing.holds(*c)) {
+        let item = I::read(heap, rest)?;
+        bytes.extend_from_slice(&item.bytes)?;
+        rest = skip_blanks(item.rest);
     }
     Ok(Piece { bytes, rest })
 }
 
 // Items up to the bracket `close`.
-pub fn block<'a, I: Item>(
-    item: &I,
+pub fn block<I: Item>(
     close: u8,
     expected: Expected,
     heap: Global,
-    text: &'a [u8],
-) -> Result<Piece<'a>, Fault>
-    ensures gives { GivesPart result (block_of (I.Item.meaning item.now) close expected text.now) }
-    ensures within { IfOk result (λ p. length p.rest.now ≤ length text.now) }
+    text: &[u8],
+) -> Result<Piece<'_>, Fault<Misread>>
+    ensures { GivesPart result (block_of I.meaning close expected text.now) (length text.now) }
 {
-    let Piece { bytes, rest } = items(item, heap, text)?;
-    match strip(close, rest) {
-        Some(rest) => end(bytes, rest),
-        None => Err(Fault::Wrong(stopped_at(expected, rest))),
-    }
+    let Piece { bytes, rest } = items::<I>(heap, text)?;
+    let rest = strip(close, rest).ok_or(stopped_at(expected, rest))?;
+    end(rest)?;
+    Ok(Piece { bytes, rest })
 }

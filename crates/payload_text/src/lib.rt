@@ -14,70 +14,58 @@ mod entries;
 // The whole payload.
 mod notation;
 
-pub use notation::{NotationFault, payload};
+pub use notation::payload;
 
 #[cfg(test)]
 mod tests {
     use super::*;
+    use lexer::Fault;
     use std::alloc::Global;
     use std::process::Abort;
-    use std::test::Fail;
 
     // Each case goes through a function without a contract, so that no proof looks into its bytes.
-    fn gives(rt: &impl Abort, heap: Global, text: &[u8], bytes: &[u8]) -> Result<(), Fail> {
-        match payload(heap, text) {
-            Ok(v) => {
-                assert!(rt; v.as_slice() == bytes);
-                Ok(())
-            },
-            Err(_) => Err(Fail::new("refused")),
-        }
+    fn gives(rt: &impl Abort, heap: Global, text: &[u8], bytes: &[u8]) {
+        assert!(rt; payload(heap, text).is_ok_and(|v| v.as_slice() == bytes));
     }
 
     #[test]
-    fn payloads(rt: HostRuntime) -> Result<(), Fail> {
+    fn payloads(rt: HostRuntime) {
         let heap = rt.alloc();
-        gives(&rt, heap, b"", b"")?;
-        gives(&rt, heap, b"-", b"")?;
-        gives(&rt, heap, b"0a0B  ff", b"\x0A\x0B\xFF")?;
-        gives(&rt, heap, b"5:127", b"\xC1\x05\x7F")?;
-        gives(&rt, heap, b"5:\"a]#\"", b"\xC3\x05a]#")?;
-        gives(&rt, heap, b"5:x 300:x0aFF", b"\xC0\x05\xE2\x01\x2C\x0A\xFF")?;
+        gives(&rt, heap, b"", b"");
+        gives(&rt, heap, b"-", b"");
+        gives(&rt, heap, b"0a0B  ff", b"\x0A\x0B\xFF");
+        gives(&rt, heap, b"5:127", b"\xC1\x05\x7F");
+        gives(&rt, heap, b"5:\"a]#\"", b"\xC3\x05a]#");
+        gives(&rt, heap, b"5:x 300:x0aFF", b"\xC0\x05\xE2\x01\x2C\x0A\xFF");
         gives(
             &rt,
             heap,
             b"2[ 0:1 101:-129 ]",
             b"\x87\x02\x41\x00\x01\x42\x65\xFF\x7F",
-        )?;
+        );
         gives(
             &rt,
             heap,
             b"@0{1:2 3[]} 4:5",
             b"\x05\x00\xC1\x01\x02\x80\x03\xC1\x04\x05",
-        )
+        );
     }
 
-    fn refuses(rt: &impl Abort, heap: Global, text: &[u8], from: usize) -> Result<(), Fail> {
-        match payload(heap, text) {
-            Err(NotationFault::Bad(bad)) => {
-                assert_eq!(rt; bad.from, from);
-                Ok(())
-            },
-            _ => Err(Fail::new("not refused")),
-        }
+    fn refuses(rt: &impl Abort, heap: Global, text: &[u8], from: usize) {
+        assert!(rt; matches!(payload(heap, text), Err(Fault::Wrong(bad)) if bad.from == from));
     }
 
     #[test]
-    fn bad_payloads(rt: HostRuntime) -> Result<(), Fail> {
+    fn bad_payloads(rt: HostRuntime) {
         let heap = rt.alloc();
-        refuses(&rt, heap, b"0A 0", 3)?;
-        refuses(&rt, heap, b"0 A", 0)?;
-        refuses(&rt, heap, b"2[0:1", 5)?;
-        refuses(&rt, heap, b"@0{1:2]", 6)?;
-        refuses(&rt, heap, b"5:\"ab", 5)?;
-        refuses(&rt, heap, b"5:\"ab\"6:1", 6)?;
-        refuses(&rt, heap, b"5:x0", 2)?;
-        refuses(&rt, heap, b"5:", 2)?;
-        refuses(&rt, heap, b"4:1 65536:1", 4)
+        refuses(&rt, heap, b"0A 0", 3);
+        refuses(&rt, heap, b"0 A", 0);
+        refuses(&rt, heap, b"2[0:1", 5);
+        refuses(&rt, heap, b"@0{1:2]", 6);
+        refuses(&rt, heap, b"5:\"ab", 5);
+        refuses(&rt, heap, b"5:\"ab\"6:1", 6);
+        refuses(&rt, heap, b"5:x0", 2);
+        refuses(&rt, heap, b"5:", 2);
+        refuses(&rt, heap, b"4:1 65536:1", 4);
     }
 }

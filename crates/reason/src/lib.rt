@@ -1,7 +1,9 @@
 #![tactic(auto)]
 
-ghost use Rattle.std.specs.Prelude.{◌≡◌};
+ghost use Rattle.std.specs.Prelude.{◌≡◌, Some};
 ghost use Rattle.reason.specs.Reason.{number_of, code_of, code_text};
+
+use std::fmt;
 
 // Why a call is turned away. Each reason has a number of its own, and goes with one response code.
 #[derive(Clone, Copy, PartialEq, Eq, Debug)]
@@ -21,31 +23,33 @@ pub enum Code {
     InternalServerError,
 }
 
-impl Reason {
-    pub fn number(self) -> u8
-        ensures { result ≡ number_of self }
-    {
-        self as u8
-    }
+impl From<Reason> for u8 {
+    ghost from_gives = { λ r n. n ≡ number_of r };
 
-    pub fn code(self) -> Code
-        ensures { result ≡ code_of self }
-    {
-        match self {
+    fn from(reason: Reason) -> u8 {
+        reason as u8
+    }
+}
+
+impl From<Reason> for Code {
+    ghost from_gives = { λ r c. c ≡ code_of r };
+
+    fn from(reason: Reason) -> Code {
+        match reason {
             Reason::NotWellFormed | Reason::DoesNotFit => Code::BadRequest,
             Reason::NoRoom => Code::InternalServerError,
         }
     }
 }
 
-impl Code {
-    // The code as people write it: class, a point, and two digits of detail.
-    pub fn text(self) -> &'static str
-        ensures { result.now ≡ code_text self }
-    {
-        match self {
+// The code as people write it: class, a point, and two digits of detail.
+impl fmt::Display for Code {
+    ghost output = { λ c. Some (code_text c) };
+
+    fn fmt<W: fmt::Write>(&self, f: &mut fmt::Formatter<W>) -> fmt::Result {
+        f.write_str(match self {
             Code::BadRequest => "4.00",
             Code::InternalServerError => "5.00",
-        }
+        })
     }
 }

@@ -7,24 +7,12 @@ use Rattle.lexer.specs.declared.fault.Expected.{Expected}
 use Rattle.lexer.specs.declared.fault.Expected.TheVariants as expected
 use Rattle.lexer.specs.declared.fault.BadLine.{BadLine}
 use Rattle.lexer.specs.declared.fault.Misread.{Misread}
-use Rattle.scenario.specs.declared.step.Command.{Command}
-use Rattle.scenario.specs.declared.step.Command.TheVariants as command
 use Rattle.scenario.specs.declared.step.Step.{Step}
 use Rattle.scenario.specs.declared.step.Step.TheVariants as step
 use Rattle.lexer.specs.Faults.{stopped, then, placed}
 use Rattle.lexer.specs.Lines.{Text, body_of}
 use Rattle.lexer.specs.Numbers.{number_of, decimal_of}
 use Rattle.lexer.specs.Words.{same, skip_blanks, word_of, behind_word}
-
--- the commands by their names; no word at all is a blank line
-abbrev pub command_named : List ℕ → Option Command
-command_named w =
-    cond (length w == 0) (Some command.Blank)
-    (cond (same w (codes "echo")) (Some command.Echo)
-    (cond (same w (codes "say")) (Some command.Say)
-    (cond (same w (codes "check")) (Some command.Check)
-    (cond (same w (codes "header")) (Some command.Header)
-    (cond (same w (codes "integer")) (Some command.Integer) None)))))
 
 abbrev pub kind_named : List ℕ → Option Kind
 kind_named w =
@@ -47,7 +35,7 @@ meaning_of step.Blank = blank
 meaning_of (step.Echo on) = echo on
 meaning_of (step.Say t) = say t.now
 meaning_of (step.Check t) = check t.now
-meaning_of (step.Header k i n) = header k i n
+meaning_of (step.Header tag n) = header tag.kind tag.id n
 meaning_of (step.Integer z) = integer z
 
 abbrev pub meant : {E : Type 0} → Result Step E → Result Meaning E
@@ -59,29 +47,30 @@ on_or_off t =
     cond (same t (codes "on")) (Ok true) (cond (same t (codes "off")) (Ok false) (Err (stopped expected.OnOrOff t)))
 
 -- a kind, an identifier and a length
-abbrev pub header_of : List ℕ → Result Meaning Misread
+unfoldable pub header_of : List ℕ → Result Meaning Misread
 header_of t =
     then (ok_or (kind_named (word_of t)) (stopped expected.Kind t)) (λ k.
     then (ok_or (number_of 65535 (word_of (behind_word t))) (stopped expected.Number (behind_word t))) (λ i.
     then (ok_or (number_of 4294967295 (behind_word (behind_word t))) (stopped expected.Length (behind_word (behind_word t)))) (λ n.
     Ok (header k i n))))
 
--- what the words behind a command say
-abbrev pub command_of : Command → List ℕ → Result Meaning Misread
-command_of command.Blank t = Ok blank
-command_of command.Echo t = then (on_or_off t) (λ on. Ok (echo on))
-command_of command.Say t = Ok (say t)
-command_of command.Check t = Ok (check t)
-command_of command.Header t = header_of t
-command_of command.Integer t = then (ok_or (decimal_of t) (stopped expected.Decimal t)) (λ z. Ok (integer z))
+unfoldable pub integer_of : List ℕ → Result ℤ Misread
+integer_of t = ok_or (decimal_of t) (stopped expected.Decimal t)
 
-abbrev pub commanded : Option Command → List ℕ → Result Meaning Misread
-commanded None t = Err (stopped expected.Step t)
-commanded (Some c) t = command_of c (behind_word t)
+-- the step of the text `t`, whose first word is `w`, with `rest` behind it; no word at all is a blank line
+abbrev pub step_by_word : List ℕ → List ℕ → List ℕ → Result Meaning Misread
+step_by_word w rest t =
+    cond (length w == 0) (Ok blank)
+    (cond (same w (codes "echo")) (then (on_or_off rest) (λ on. Ok (echo on)))
+    (cond (same w (codes "say")) (Ok (say rest))
+    (cond (same w (codes "check")) (Ok (check rest))
+    (cond (same w (codes "header")) (header_of rest)
+    (cond (same w (codes "integer")) (then (integer_of rest) (λ z. Ok (integer z)))
+    (Err (stopped expected.Step t)))))))
 
 -- the step of a text that begins with no blank
 abbrev pub step_of : List ℕ → Result Meaning Misread
-step_of t = commanded (command_named (word_of t)) t
+step_of t = step_by_word (word_of t) (behind_word t) t
 
 -- what a line that is text and not too long is read as
 abbrev pub reading_of : List ℕ → Result Meaning BadLine

@@ -1,4 +1,3 @@
-pub mod Texts
 pub mod Lines
 pub mod Forms
 pub mod Runnings

@@ -6,8 +6,8 @@ use Rattle.lexer.specs.declared.fault.Expected.TheVariants as expected
 use Rattle.lexer.specs.Lines.{body_of, Text}
 use Rattle.payload_text.specs.Notation.{payload_of}
 use Rattle.scenario.specs.Steps.{Meaning, blank, echo, say, check, header, integer, reading_of, all_bad}
-use Rattle.session.specs.declared.state.Session.{Session}
-use Rattle.session.specs.Answers.{line_text}
+use Rattle.session.specs.declared.running.Session.{Session}
+use Rattle.session.specs.Answers.{bad_text, meaning_text, line_text}
 
 -- the number of the next line
 abbrev pub next_number : ℕ → ℕ
@@ -56,6 +56,18 @@ next s = record { echo = s.echo; number = next_number s.number; bad = s.bad }
 abbrev pub Gave : List ℕ → Result (Unit {0}) AllocError → List ℕ → Session → List ℕ → Session → Type 0
 Gave old r text then new s = OnOk r ((new ≡ old ++ text) × (s ≡ then))
 
+-- the fault of a text of the line was printed, and the session is marked
+abbrev pub Refused : Session → BadLine → List ℕ → List ℕ → Result (Unit {0}) AllocError → List ℕ → Session → Type 0
+Refused s bad text old r new s' = Gave old r (bad_text s.number bad text) (line_after s (Err bad)) new s'
+
+-- what a step asks for was printed, and what it leaves is left
+abbrev pub Performed : Session → Meaning → List ℕ → Result (Unit {0}) AllocError → List ℕ → Session → Type 0
+Performed s m old r new s' = Gave old r (meaning_text s.number m) (after s m) new s'
+
+-- the same for a line that was read, or could not be
+abbrev pub Obeyed : Session → List ℕ → Result Meaning BadLine → List ℕ → Result (Unit {0}) AllocError → List ℕ → Session → Type 0
+Obeyed s line m old r new s' = Gave old r (line_text s.number line m) (line_after s m) new s'
+
 abbrev pub Readable : List ℕ → Type 0
 Readable line = (length line ≤ 16384) × Text line
 
@@ -66,9 +78,7 @@ pub record Echoed (on : Bool) (line old : List ℕ) (r : Result (Unit {0}) Alloc
 
 -- A line of bytes that are no text, or of too many, is bad, and none of it is printed.
 pub record Ran (s : Session) (line old : List ℕ) (r : Result (Unit {0}) AllocError) (new : List ℕ) (s' : Session) : Type 0 where
-  pub long : 16384 < length line
-      → Gave old r (line_text (next s).number line (Err (all_bad expected.ShorterLine))) (line_after (next s) (Err (all_bad expected.ShorterLine))) new s'
-  pub other : length line ≤ 16384 → (Text line → ⊥)
-      → Gave old r (line_text (next s).number line (Err (all_bad expected.Text))) (line_after (next s) (Err (all_bad expected.Text))) new s'
+  pub long : 16384 < length line → Obeyed (next s) line (Err (all_bad expected.ShorterLine)) old r new s'
+  pub other : length line ≤ 16384 → (Text line → ⊥) → Obeyed (next s) line (Err (all_bad expected.Text)) old r new s'
   pub read : length line ≤ 16384 → Text line
       → Gave old r (echo_text s.echo (body_of line) ++ line_text (next s).number line (reading_of line)) (line_after (next s) (reading_of line)) new s'

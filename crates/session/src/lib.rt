@@ -5,8 +5,7 @@ mod answers;
 mod intake;
 mod listing;
 mod running;
-mod state;
 mod text;
 
 pub use intake::take_in;
-pub use state::Session;
+pub use running::Session;

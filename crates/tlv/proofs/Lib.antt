@@ -1,3 +1,2 @@
-pub mod Heads
 pub mod Walks
 pub mod Faults

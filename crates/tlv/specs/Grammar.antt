@@ -99,10 +99,6 @@ abbrev pub told : Fault → Result (Unit {0}) EntryFault
 told None = Ok tt
 told (Some f) = Err f
 
-abbrev pub told_entry : Container → ℕ → Option Entry → Result Entry EntryFault
-told_entry c at None = Err (fault_at at)
-told_entry c at (Some e) = cond (allows c e.kind) (Ok e) (Err (fault_at e.place))
-
 -- WELL FORMED: at most 4,096 bytes, filled by entries that are allowed where they stand
 abbrev pub verdict : List ℕ → Result (Unit {0}) PayloadFault
 verdict bs = cond (nat_le (length bs) 4096) (lifted of_entry (told (fault Payload bs 0 (length bs)))) (Err TooLong)

@@ -3,3 +3,4 @@ pub mod Entries
 pub mod Walk
 pub mod Faults
 pub mod Grammar
+pub mod Wording

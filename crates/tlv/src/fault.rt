@@ -1,24 +1,39 @@
-ghost use Rattle.std.specs.Prelude.{◌≡◌};
-ghost use Rattle.tlv.specs.Faults.{of_entry, of_payload, of_reason};
+ghost use Rattle.std.specs.Prelude.{◌≡◌, Some};
+ghost use Rattle.tlv.specs.Faults.{fault_at, of_entry, of_payload, of_reason};
+ghost use Rattle.tlv.specs.Wording.{fault_words};
 
-use reason::Reason;
+use reason::{Code, Reason};
+use std::fmt;
 
 // What the entry reader found: why, and the offset of the entry's type byte.
-#[derive(Clone, Copy)]
+#[derive(Clone, Copy, Debug, PartialEq, Eq)]
 pub struct EntryFault {
     pub reason: Reason,
     pub place: usize,
 }
 
+impl EntryFault {
+    // Of an entry that passes the end of its container, or is of a kind not allowed there.
+    pub(crate) fn at(place: usize) -> EntryFault
+        ensures { result ≡ fault_at place }
+    {
+        EntryFault {
+            reason: Reason::NotWellFormed,
+            place,
+        }
+    }
+}
+
 // What is wrong with a payload.
-#[derive(Clone, Copy)]
+#[derive(Clone, Copy, Debug, PartialEq, Eq)]
 pub enum PayloadFault {
     TooLong,
     Entry(EntryFault),
 }
 
 // What the caller is told.
-#[derive(Clone, Copy)]
+// No `EntryFault`, though its fields are the same, because it may be about no entry, and each step lifts by `From`.
+#[derive(Clone, Copy, Debug, PartialEq, Eq)]
 pub struct CallFault {
     pub reason: Reason,
     pub place: usize,
@@ -37,10 +52,7 @@ impl From<PayloadFault> for CallFault {
 
     fn from(p: PayloadFault) -> CallFault {
         match p {
-            PayloadFault::TooLong => CallFault {
-                reason: Reason::NotWellFormed,
-                place: 0,
-            },
+            PayloadFault::TooLong => CallFault::from(Reason::NotWellFormed),
             PayloadFault::Entry(e) => CallFault {
                 reason: e.reason,
                 place: e.place,
@@ -55,5 +67,17 @@ impl From<Reason> for CallFault {
 
     fn from(reason: Reason) -> CallFault {
         CallFault { reason, place: 0 }
+    }
+}
+
+// The code, the number of the reason, and the place.
+impl fmt::Display for CallFault {
+    ghost output = { λ c. Some (fault_words c) };
+
+    fn fmt<W: fmt::Write>(&self, f: &mut fmt::Formatter<W>) -> fmt::Result {
+        let code = Code::from(self.reason);
+        let number = u8::from(self.reason);
+        let place = self.place;
+        write!(f, "{code} {number} {place}")
     }
 }

@@ -1,16 +1,14 @@
-ghost use Rattle.std.specs.Prelude.{◌≡◌, ◌≤◌, IfOk};
-ghost use Rattle.tlv.specs.Entries.{entry_at, Located};
+ghost use Rattle.std.specs.Prelude.{◌≡◌};
 ghost use Rattle.tlv.specs.Faults.{lifted, of_payload};
-ghost use Rattle.tlv.specs.Grammar.{allows, within, fault, told, told_entry, verdict};
+ghost use Rattle.tlv.specs.Grammar.{allows, within, fault, told, verdict};
 
-use crate::entries::{Entry, entry_at};
 use crate::fault::{CallFault, EntryFault, PayloadFault};
 use crate::header::Kind;
 use crate::limit::narrow;
-use reason::Reason;
+use crate::walk::Entries;
 
 // What holds entries: a whole payload, or the value of an entry that is made of entries.
-#[derive(Clone, Copy)]
+#[derive(Clone, Copy, Debug, PartialEq, Eq)]
 pub enum Container {
     Payload,
     Instance,
@@ -39,25 +37,9 @@ pub fn contents(k: Kind) -> Option<Container>
     }
 }
 
-// The entry at `at`, which lies before `end` and is allowed in `c`.
-fn admitted(bytes: &[u8], c: Container, at: usize, end: usize) -> Result<Entry, EntryFault>
-    ensures says { result ≡ told_entry c at (entry_at bytes.now at end) }
-    ensures known { IfOk result (Located bytes.now at end) }
-{
-    let reason = Reason::NotWellFormed;
-    let Some(e) = entry_at(bytes, at, end) else {
-        return Err(EntryFault { reason, place: at });
-    };
-    if !allowed(c, e.kind) {
-        return Err(EntryFault {
-            reason,
-            place: e.place,
-        });
-    }
-    Ok(e)
-}
-
 // Checks the entries from `start` to `end`, and by the same rule those inside each of them.
+// Start and end come apart, and not as `Entries`, because the walk ends at the limit, which stands at `end`.
+#[tactic(auto, using(crate::proofs::Faults::fault_filled))]
 fn check(
     bytes: &[u8],
     limit: &mut usize,
@@ -65,18 +47,22 @@ fn check(
     start: usize,
     end: usize,
 ) -> Result<(), EntryFault>
-    requires { start ≤ end }
     ensures says { result ≡ told (fault c bytes.now start end) }
     ensures restores { limit.new ≡ limit.old }
 {
     let guard = narrow(limit, end);
-    let mut at = start;
-    while at < *guard.limit {
-        let e = admitted(bytes, c, at, *guard.limit)?;
+    let mut reached = start;
+    for e in Entries::between(bytes, start, *guard.limit) {
+        if !allowed(c, e.kind) {
+            return Err(EntryFault::at(e.place));
+        }
         if let Some(inner) = contents(e.kind) {
             check(bytes, guard.limit, inner, e.from, e.to)?;
         }
-        at = e.to;
+        reached = e.to;
+    }
+    if reached != *guard.limit {
+        return Err(EntryFault::at(reached));
     }
     Ok(())
 }

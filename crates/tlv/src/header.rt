@@ -1,19 +1,41 @@
-ghost use Rattle.std.specs.Prelude.{◌≡◌, ◌+◌, ◌*◌, ◌≤◌, IfOk};
-ghost use Rattle.tlv.specs.Header.{kind_number, kind_of, header_answer, read_length, read_header};
+ghost use Rattle.std.specs.Prelude.{◌≡◌, ◌+◌, ◌*◌, ◌≤◌, IfOk, Some};
+ghost use Rattle.tlv.specs.Header.{kind_of, header_answer, read_length, read_header};
+ghost use Rattle.tlv.specs.Wording.{kind_text};
 
 use reason::Reason;
+use std::fmt;
 
-// What an entry stands for.
-#[derive(Clone, Copy, PartialEq, Eq)]
+// What an entry stands for, with its number in bits 7 and 6 of the type byte.
+#[derive(Clone, Copy, Debug, PartialEq, Eq)]
 pub enum Kind {
-    ObjectInstance,
-    ResourceInstance,
-    MultipleResource,
-    Resource,
+    ObjectInstance = 0,
+    ResourceInstance = 1,
+    MultipleResource = 2,
+    Resource = 3,
+}
+
+impl fmt::Display for Kind {
+    ghost output = { λ k. Some (kind_text k) };
+
+    fn fmt<W: fmt::Write>(&self, f: &mut fmt::Formatter<W>) -> fmt::Result {
+        f.write_str(match self {
+            Kind::ObjectInstance => "Object Instance",
+            Kind::ResourceInstance => "Resource Instance",
+            Kind::MultipleResource => "multiple Resource",
+            Kind::Resource => "Resource",
+        })
+    }
+}
+
+// What names an entry in its container: the T and the I of its header.
+#[derive(Clone, Copy, Debug, PartialEq, Eq)]
+pub struct Tag {
+    pub kind: Kind,
+    pub id: u16,
 }
 
 // A header as it was read: `size` bytes, behind which `len` bytes of value are due.
-#[derive(Clone, Copy)]
+#[derive(Clone, Copy, Debug, PartialEq, Eq)]
 pub struct Header {
     pub kind: Kind,
     pub id: u16,
@@ -21,17 +43,7 @@ pub struct Header {
     pub len: usize,
 }
 
-fn kind_number(kind: Kind) -> u8
-    ensures { result ≡ kind_number kind }
-{
-    match kind {
-        Kind::ObjectInstance => 0,
-        Kind::ResourceInstance => 1,
-        Kind::MultipleResource => 2,
-        Kind::Resource => 3,
-    }
-}
-
+// The kind in the two highest bits of a type byte; no `From`, because the other bits are no part of it.
 fn kind_of(t: u8) -> Kind
     ensures { result ≡ kind_of t }
 {
@@ -44,24 +56,20 @@ fn kind_of(t: u8) -> Kind
 }
 
 // The type byte and the length of the shortest header; a length that three bytes do not hold is refused.
-pub fn short_header(kind: Kind, id: u16, len: usize) -> Result<(u8, usize), Reason>
-    ensures says { result ≡ header_answer kind id len }
+pub fn short_header(tag: Tag, len: usize) -> Result<(u8, usize), Reason>
+    ensures says { result ≡ header_answer tag.kind tag.id len }
     ensures small { IfOk result (λ h. h.1 ≤ 6) }
 {
-    let (id_bits, id_size) = if id < 256 { (0, 1) } else { (32, 2) };
-    let (len_bits, len_size) = if len < 8 {
-        (len as u8, 0)
-    } else if len < 256 {
-        (8, 1)
-    } else if len < 65_536 {
-        (16, 2)
-    } else if len < 16_777_216 {
-        (24, 3)
-    } else {
-        return Err(Reason::DoesNotFit);
+    let (id_bits, id_size) = if tag.id < 256 { (0, 1) } else { (32, 2) };
+    let (len_bits, len_size) = match len {
+        ..8 => (len as u8, 0),
+        ..256 => (8, 1),
+        ..65_536 => (16, 2),
+        ..16_777_216 => (24, 3),
+        _ => return Err(Reason::DoesNotFit),
     };
     Ok((
-        kind_number(kind) * 64 + id_bits + len_bits,
+        (tag.kind as u8) * 64 + id_bits + len_bits,
         1 + id_size + len_size,
     ))
 }
@@ -73,13 +81,10 @@ fn read_length(t: u8, id: u16, used: usize, rest: &[u8]) -> Option<Header>
 {
     let kind = kind_of(t);
     let (size, len) = match (t / 8 % 4, rest) {
-        (0, _) => (used, (t % 8) as usize),
-        (1, [a, ..]) => (used + 1, *a as usize),
-        (2, [a, b, ..]) => (used + 2, *a as usize * 256 + *b as usize),
-        (3, [a, b, c, ..]) => (
-            used + 3,
-            (*a as usize * 256 + *b as usize) * 256 + *c as usize,
-        ),
+        (0, _) => (used, usize::from(t % 8)),
+        (1, &[a, ..]) => (used + 1, usize::from(a)),
+        (2, &[a, b, ..]) => (used + 2, usize::from(u16::from_be_bytes([a, b]))),
+        (3, &[a, b, c, ..]) => (used + 3, u32::from_be_bytes([0, a, b, c]) as usize),
         _ => return None,
     };
     Some(Header {
@@ -90,20 +95,15 @@ fn read_length(t: u8, id: u16, used: usize, rest: &[u8]) -> Option<Header>
     })
 }
 
-// An identifier of two bytes, high byte first.
-fn wide_id(hi: u8, lo: u8) -> u16
-    ensures { result ≡ hi * 256 + lo }
-{
-    hi as u16 * 256 + lo as u16
-}
-
 // The header that `s` begins with, in any form; None where `s` ends within it.
 pub fn read_header(s: &[u8]) -> Option<Header>
     ensures { result ≡ read_header s.now }
 {
-    match s {
-        [t, id, rest @ ..] if *t / 32 % 2 == 0 => read_length(*t, *id as u16, 2, rest),
-        [t, hi, lo, rest @ ..] if *t / 32 % 2 == 1 => read_length(*t, wide_id(*hi, *lo), 3, rest),
+    match *s {
+        [t, id, ref rest @ ..] if t / 32 % 2 == 0 => read_length(t, u16::from(id), 2, rest),
+        [t, hi, lo, ref rest @ ..] if t / 32 % 2 == 1 => {
+            read_length(t, u16::from_be_bytes([hi, lo]), 3, rest)
+        }
         _ => None,
     }
 }

@@ -12,5 +12,5 @@ mod walk;
 pub use entries::{Entry, entry_at, value};
 pub use fault::{CallFault, EntryFault, PayloadFault};
 pub use grammar::{Container, accept_payload, check_payload, contents};
-pub use header::{Header, Kind, read_header, short_header};
+pub use header::{Header, Kind, Tag, read_header, short_header};
 pub use walk::Entries;

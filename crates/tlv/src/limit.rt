@@ -1,5 +1,7 @@
 ghost use Rattle.std.specs.Prelude.{◌≡◌};
 
+use std::mem;
+
 // Narrows a reading limit, and puts back the one before when it is dropped.
 pub struct Guard<'a> {
     pub limit: &'a mut usize,
@@ -10,11 +12,8 @@ impl Drop for Guard<'_> {
     fn drop(self)
         ensures { self.exit.0.now ≡ self.entry.before }
     {
-        *self.limit = self.before;
-        let Guard {
-            limit: _,
-            before: _,
-        } = self;
+        let Guard { limit, before } = self;
+        *limit = before;
     }
 }
 
@@ -24,7 +23,6 @@ pub fn narrow<'a>(limit: &'a mut usize, end: usize) -> Guard<'a>
     ensures held { result.before ≡ limit.old }
     ensures cut { result.limit.now ≡ end }
 {
-    let before = *limit;
-    *limit = end;
+    let before = mem::replace(limit, end);
     Guard { limit, before }
 }

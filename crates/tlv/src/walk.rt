@@ -1,12 +1,12 @@
-ghost use Rattle.std.specs.Prelude.{◌≡◌, ◌-◌, length};
+ghost use Rattle.std.specs.Prelude.{◌≡◌, length};
+ghost use Rattle.std.specs.Iterator.{YieldsFirst, item_count};
 ghost use Rattle.tlv.specs.Entries.{entries};
-ghost use Rattle.tlv.specs.Walk.{entries_left, first_of};
-ghost use Rattle.std.specs.Iterator.{at_most};
+ghost use Rattle.tlv.specs.Walk.{entries_left};
 
 use crate::entries::{Entry, entry_at};
 
 // The entries of a container of `bytes`, one behind the other.
-#[derive(Drop)]
+#[derive(Clone, Copy)]
 pub struct Entries<'a> {
     bytes: &'a [u8],
     at: usize,
@@ -14,36 +14,36 @@ pub struct Entries<'a> {
 }
 
 impl<'a> Entries<'a> {
+    // The entries that lie from `at` to `end`.
+    pub(crate) fn between(bytes: &'a [u8], at: usize, end: usize) -> Entries<'a>
+        ensures { entries_left result ≡ entries bytes.now at end }
+    {
+        Entries { bytes, at, end }
+    }
+
     // The entries of a whole payload.
     pub fn of_payload(bytes: &'a [u8]) -> Entries<'a>
         ensures { entries_left result ≡ entries bytes.now 0 (length bytes.now) }
     {
-        Entries {
-            bytes,
-            at: 0,
-            end: bytes.len(),
-        }
+        Entries::between(bytes, 0, bytes.len())
     }
 
     // The entries that lie in the value of an entry of the same bytes.
     pub fn inside(bytes: &'a [u8], e: Entry) -> Entries<'a>
         ensures { entries_left result ≡ entries bytes.now e.from e.to }
     {
-        Entries {
-            bytes,
-            at: e.from,
-            end: e.to,
-        }
+        Entries::between(bytes, e.from, e.to)
     }
 }
 
 impl<'a> Iterator for Entries<'a> {
     type Item = Entry;
 
-    ghost next_gives = { λ s r t. entries_left s ≡ first_of r (entries_left t) };
+    ghost next_gives = { YieldsFirst entries_left };
 
-    ghost remaining = { λ s. at_most (s.end - s.at) };
+    ghost remaining = { item_count entries_left };
 
+    #[tactic(auto, using(crate::proofs::Walks::walking))]
     fn next(&mut self) -> Option<Entry> {
         let e = entry_at(self.bytes, self.at, self.end)?;
         self.at = e.to;

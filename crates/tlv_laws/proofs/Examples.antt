@@ -6,9 +6,9 @@ use Rattle.tlv.specs.Grammar.{fault}
 use Rattle.tlv_shortest.specs.Shortest.{ShortTo}
 use Rattle.tlv_laws.specs.Worked.{WorkedBytes}
 
-pub worked-bytes : WorkedBytes
+pub worked_bytes : WorkedBytes
 unfolding entry_at entries_by entries fault ShortTo spare_half shortest eight_bytes
-worked-bytes =
+worked_bytes =
     record {
       seven = refl;
       eight = refl;

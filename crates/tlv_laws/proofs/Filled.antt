@@ -1,22 +1,17 @@
 -- The grammar, and what is accepted.
-use Rattle.std.proofs.Common.{◌≡◌, ℕ, ◌<◌, Bool, true, false, cond, leb, List, length, Err, Result, refl, arith}
-use Rattle.std.proofs.lemmas.Bool.{leb-true}
-use Rattle.tlv.specs.declared.fault.PayloadFault.{PayloadFault}
-use Rattle.tlv.specs.declared.fault.PayloadFault.TheVariants.{TooLong}
-use Rattle.tlv.specs.Faults.{of_entry, lifted}
-use Rattle.tlv.specs.Grammar.{fault, told}
-use Rattle.tlv.specs.declared.grammar.Container.TheVariants.{Payload}
+use Rattle.std.proofs.Common.{◌≡◌, ℕ, false, leb, List, length, arith}
+use Rattle.std.proofs.lemmas.Bool.Decides.{nat_tests}
 use Rattle.tlv.specs.declared.grammar.Container.{Container}
 use Rattle.tlv_shortest.specs.Items.{Items, none, plain, holder}
 use Rattle.tlv_laws.specs.Fills.{Fills, none as no-fill, leaf, node, AcceptsGrammar}
 use Rattle.tlv_laws.proofs.Readings.{Reads, no_entry, of_bytes, of_entries, Reading, well_formed, accepts}
 
-pub fills : {c : Container} {xs : List ℕ} {t : Items} → Reads c xs t → Fills c xs
+fills : {c : Container} {xs : List ℕ} {t : Items} → Reads c xs t → Fills c xs
 fills no_entry = no-fill
 fills (of_bytes k id hd v a w h f) = leaf k id hd v a w h (fills f)
 fills (of_entries k id hd d a w h b f) = node k id hd d a w h (fills b) (fills f)
 
-pub says : {c : Container} {xs : List ℕ} → Fills c xs → Reading c xs
+says : {c : Container} {xs : List ℕ} → Fills c xs → Reading c xs
 says no-fill = record { said = none; reads = no_entry }
 says (leaf k id hd v a w h f) =
     let r = says f in record { said = plain k id v r.said; reads = of_bytes k id hd v a w h r.reads }
@@ -25,16 +20,11 @@ says (node k id hd d a w h b f) =
     let r = says f in
     record { said = holder k id i.said r.said; reads = of_entries k id hd d a w h i.reads r.reads }
 
-too_long : (bs : List ℕ) (b : Bool) → leb (length bs) 4096 ≡ b → 4096 < length bs
-    → (x : Result (Unit {0}) PayloadFault) → cond b x (Err TooLong) ≡ Err TooLong
-too_long bs true p l x = let h = leb-true (length bs) 4096 p in absurd (omega arith)
-too_long bs false p l x = refl
-
 pub accepts_grammar : AcceptsGrammar
 accepts_grammar bs =
     record {
       all = λ l f. let r = says f in accepts bs r.said l r.reads;
       short = λ e. (well_formed bs e).short;
       only = λ e. fills (well_formed bs e).said;
-      long = λ l. too_long bs (leb (length bs) 4096) refl l (lifted of_entry (told (fault Payload bs 0 (length bs))));
+      long = λ l. let s : leb (length bs) 4096 ≡ false = grind (arith, nat_tests) in cc;
     }

@@ -1,12 +1,10 @@
 -- The shortest form of a payload says what the payload says, and is its own shortest form.
-use Rattle.std.specs.Prelude.{◌≡◌, ℕ, ◌≤◌, List, length, Ok, Err, Result}
+use Rattle.std.specs.Prelude.{◌≡◌, ℕ, ◌≤◌, List, length, Some, None, Ok, Err, Option, Result}
+use Rattle.integer.specs.Integer.{Bytes}
 use Rattle.tlv.specs.declared.fault.CallFault.{CallFault}
 use Rattle.tlv.specs.Grammar.{verdict}
-use Rattle.tlv_writer.specs.Write.{padded}
 use Rattle.tlv_shortest.specs.Items.{items}
 use Rattle.tlv_shortest.specs.Shortest.{Shortest, shortest_form}
-use Rattle.tlv_laws.specs.declared.payload.Rewritten.{Rewritten}
-use Rattle.tlv_laws.specs.Headers.{Bytes}
 
 -- READ BACK: what is written for a payload is well formed, has the same entries at every level, and is no
 -- longer; no payload with these entries is shorter.
@@ -30,15 +28,8 @@ pub record WrittenSame (bs : List ℕ) : Type 0 where
 abbrev pub RewritesSame : Type 0
 RewritesSame = (bs : List ℕ) → Bytes bs → verdict bs ≡ Ok tt → WrittenSame bs
 
--- a buffer of `room` bytes that holds the shortest form of a payload, `n` bytes long, and zeros behind it
-pub record Written (room : ℕ) (bs out : List ℕ) (n : ℕ) : Type 0 where
-  pub holds : out ≡ padded room (shortest_form bs)
-  pub long : n ≡ length (shortest_form bs)
-  pub fits : n ≤ room
-  pub back : ReadBack bs
-  pub same : WrittenSame bs
-
--- what rewriting a payload told, as far as the length of its form goes
-abbrev pub length_of : Result Rewritten CallFault → Result ℕ CallFault
-length_of (Ok w) = Ok w.len
-length_of (Err e) = Err e
+-- the length of a payload's form, of which rewriting the payload tells only where it is another than the payload
+abbrev pub length_of : List ℕ → Result (Option ℕ) CallFault → Result ℕ CallFault
+length_of bs (Ok None) = Ok (length bs)
+length_of bs (Ok (Some n)) = Ok n
+length_of bs (Err e) = Err e

@@ -1,11 +1,8 @@
 -- Headers in any form, and the shortest of them.
-use Rattle.std.specs.Prelude.{◌≡◌, ℕ, ◌<◌, ◌≤◌, List, ◌++◌, length, Some, slice_index}
+use Rattle.std.specs.Prelude.{◌≡◌, ℕ, ◌<◌, ◌≤◌, List, ◌++◌, length, Some}
+use Rattle.integer.specs.Integer.{Bytes}
 use Rattle.tlv.specs.declared.header.Kind.{Kind}
 use Rattle.tlv.specs.Header.{read_header, short_header}
-
--- each element is the value of a byte
-abbrev pub Bytes : List ℕ → Type 0
-Bytes bs = (k : ℕ) → slice_index bs k < 256
 
 -- `hd` is a header, in whatever form, of an entry of kind `k` with identifier `id` and a value of `n` bytes:
 -- it is read as that and no further, whatever follows it

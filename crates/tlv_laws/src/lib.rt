@@ -4,5 +4,5 @@
 mod payload;
 mod worked;
 
-pub use payload::{Rewritten, rewrite, well_formed};
+pub use payload::{rewrite, well_formed};
 pub use worked::worked_bytes_hold;

@@ -1,3 +1,3 @@
-pub mod Sizes
 pub mod Steps
+pub mod Bounds
 pub mod Turns

@@ -28,6 +28,11 @@ unfoldable pub items_to : ℕ → List ℕ → ℕ → ℕ → Items
 items_to zero bs at end = none
 items_to (suc n) bs at end = items_of (items_to n bs) bs (entries bs at end)
 
+-- the items of a list of entries, so many levels deep
+abbrev pub items_from : ℕ → List ℕ → List Entry → Items
+items_from zero bs es = none
+items_from (suc n) bs es = items_of (items_to n bs) bs es
+
 -- A WHOLE PAYLOAD: a payload, an Object Instance in it and a multiple Resource in that make three levels.
 abbrev pub items : List ℕ → Items
 items bs = items_to 3 bs 0 (length bs)

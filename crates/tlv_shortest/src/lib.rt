@@ -2,5 +2,6 @@
 #![tactic(auto)]
 
 mod form;
+mod level;
 
 pub use form::shortest_form;

@@ -1,5 +1,5 @@
-ghost use Rattle.std.specs.Prelude.{◌≡◌, ◌+◌, ◌<◌, ◌≤◌, length, replicate};
-ghost use Rattle.tlv.specs.Header.{short_id, short_length};
+ghost use Rattle.std.specs.Prelude.{◌≡◌, ◌+◌, ◌≤◌, length};
+ghost use Rattle.std.specs.Int.{bytes_high_first};
 ghost use Rattle.tlv_writer.specs.Write.{written};
 
 // Copies `bytes` to `at`, and answers where they end.
@@ -13,41 +13,13 @@ pub fn put(out: &mut [u8], at: usize, bytes: &[u8]) -> usize
     end
 }
 
-// An identifier in one byte or two, high byte first.
-pub fn put_id(out: &mut [u8], at: usize, id: u16) -> usize
-    requires { at + length (short_id id) ≤ length out.old }
-    ensures ends { result ≡ at + length (short_id id) }
-    ensures writes { out.new ≡ written out.old at (short_id id) }
+// The lowest `size` bytes of a number, high byte first; answers where they end.
+#[tactic(auto, using(crate::proofs::Writes::low_bytes))]
+pub fn put_number(out: &mut [u8], at: usize, number: usize, size: usize) -> usize
+    requires held { size ≤ 8 }
+    requires room { at + size ≤ length out.old }
+    ensures ends { result ≡ at + size }
+    ensures writes { out.new ≡ written out.old at (bytes_high_first size number) }
 {
-    if id < 256 {
-        put(out, at, &[id as u8])
-    } else {
-        put(out, at, &[(id / 256) as u8, (id % 256) as u8])
-    }
-}
-
-// A length in the fewest bytes, high byte first; one below 8 has none.
-pub fn put_length(out: &mut [u8], at: usize, len: usize) -> usize
-    requires { (len < 16777216) × (at + length (short_length len) ≤ length out.old) }
-    ensures ends { result ≡ at + length (short_length len) }
-    ensures writes { out.new ≡ written out.old at (short_length len) }
-{
-    if len < 8 {
-        at
-    } else if len < 256 {
-        put(out, at, &[len as u8])
-    } else if len < 65_536 {
-        put(out, at, &[(len / 256) as u8, (len % 256) as u8])
-    } else {
-        let high = (len / 65_536) as u8;
-        let middle = (len / 256 % 256) as u8;
-        put(out, at, &[high, middle, (len % 256) as u8])
-    }
-}
-
-// Zeros in every place.
-pub fn clear(out: &mut [u8])
-    ensures { out.new ≡ replicate (length out.old) 0 }
-{
-    out.fill(0);
+    put(out, at, &number.to_be_bytes()[8 - size..])
 }

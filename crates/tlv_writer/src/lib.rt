@@ -4,5 +4,4 @@
 mod bytes;
 mod entry;
 
-pub use bytes::clear;
 pub use entry::{append_entry, append_header, write_entry};

@@ -1,12 +1,16 @@
-use Rattle.std.proofs.Common.{◌/◌, ltb, length, rules}
-use Rattle.integer.specs.Integer.{spare_half}
-use Rattle.integer.proofs.Halves.{halving_step}
+use Rattle.std.proofs.Common.{◌≡◌, ℕ, ◌/◌, eqb, length, get_or, take, rules}
+use Rattle.std.specs.List.{list_all}
+use Rattle.std.proofs.lemmas.Iterator.{YieldsList-from_slice}
+use Rattle.std.proofs.lemmas.Iterator.Search.{all_from_yields_List}
+use borrow.Author.Tests.{tests}
+use Rattle.integer.specs.Integer.{fill_of, spare_half}
 use Rattle.integer.proofs.halving.spare_half.Goals as goal
 
-pub returns-then-half-gt0 : goal.returns-then-half-gt0
+pub returns-then-not-is_empty : goal.returns-then-not-is_empty
 unfolding spare_half
-returns-then-half-gt0 c = halving_step c.args.v.now c.all_are.result (search rules)
-
-pub returns-else-half-gt0 : goal.returns-else-half-gt0
-unfolding spare_half
-returns-else-half-gt0 c = halving_step c.args.v.now (ltb 0 (length c.args.v.now / 2)) (search rules)
+returns-then-not-is_empty c =
+    let v = c.args.v.now in
+    let test = λ (x : ℕ). eqb x (fill_of (get_or v (length v / 2) 0)) in
+    let e : c.all.result ≡ list_all test (take (length v / 2) v)
+    = all_from_yields_List test _ _ c.all.result c.all.ensures.ran (YieldsList-from_slice (take (length v / 2) v) (search rules)) (λ x b q k. search (rules, tests)) in
+    search (rules, e)

@@ -1,11 +1,9 @@
-use Rattle.std.proofs.Common.{◌≡◌, ◌+◌, ◌≤◌, length, take}
-use Rattle.std.specs.List.{suffix_len}
-use Rattle.lexer.specs.Chars.{is_blank}
+use Rattle.std.proofs.Common.{◌≡◌, length}
+use Rattle.lexer.specs.Lines.{trimmed_of}
 use Rattle.lexer.proofs.line.trimmed.Given as goal
 
-abbrev pub invariant-loop-n : goal.invariant-loop-n
-invariant-loop-n l =
-    (l.n ≤ length l.text) × (l.n + suffix_len is_blank l.text ≡ length l.text + suffix_len is_blank (take l.n l.text))
+abbrev pub invariant-loop-text : goal.invariant-loop-text
+invariant-loop-text l = trimmed_of l.text ≡ trimmed_of l.fn.text
 
-abbrev pub decreases-loop-n : goal.decreases-loop-n
-decreases-loop-n l = l.n
+abbrev pub decreases-loop-text : goal.decreases-loop-text
+decreases-loop-text l = length l.text

@@ -1,4 +1,5 @@
-use Rattle.std.proofs.Common.{◌≡◌, ◌-◌, ◌++◌, vec_items}
+use Rattle.std.proofs.Common.{◌≡◌, ◌++◌, vec_items}
+use Rattle.tlv.specs.Walk.{entries_left}
 use Rattle.session.specs.Listing.{listing}
 use Rattle.session.proofs.listing.+put_entries.Given as goal
 
@@ -8,8 +9,5 @@ decreases-put_entries l = l.levels
 -- What is left to print, behind what was printed, is the whole.
 abbrev pub invariant-loop-e : goal.invariant-loop-e
 invariant-loop-e l =
-    vec_items l.out ++ listing l.levels l.bytes l.at l.end
-    ≡ vec_items l.initial.out ++ listing l.levels l.bytes l.start l.end
-
-abbrev pub decreases-loop-e : goal.decreases-loop-e
-decreases-loop-e l = l.end - l.at
+    vec_items l.out ++ listing l.levels l.bytes (entries_left l.e-iterator)
+    ≡ vec_items l.initial.out ++ listing l.levels l.bytes (entries_left l.fn.entries)

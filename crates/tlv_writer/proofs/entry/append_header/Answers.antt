@@ -1,27 +1,19 @@
-use Rattle.std.proofs.Common.{ℕ, [], ◌∷◌, ◌++◌, length, ap, ◌∙◌, arith}
-use Rattle.tlv.specs.Header.{short_id, short_length, short_header}
+use Rattle.std.proofs.Common.{◌≡◌, ◌-◌, ℕ, [], ◌∷◌, ◌++◌, length, ap, ◌∙◌, arith, length-append}
+use Rattle.tlv.specs.Header.{short_type, short_id, short_length}
 use Rattle.tlv_writer.specs.Write.{written}
-use Rattle.tlv_writer.proofs.Writes.{three-written, three-ends, room_answer, header-known}
+use Rattle.tlv_writer.proofs.Writes.{written_next, id_bytes, length_bytes}
 use Rattle.tlv_writer.proofs.entry.append_header.Goals as goal
 
-pub returns : goal.returns
-returns c =
+pub returns-clause-writes : goal.returns-clause-writes
+returns-clause-writes c =
     let old = c.args.out.now in
-    let y = short_id c.args.id in
-    let z = short_length c.args.len in
-    let x = c.in_ok-t.t ∷ [] in
-    let k = header-known c.in_ok-t.t c.in_ok-t.size c.args.kind c.args.id c.args.len c.in_ok-t.ensures.says in
-    let w = three-written old c.put-id_at.new.out c.put_id-len_at.new.out c.put_length.new.out
-    c.args.at c.put-id_at.result c.put_id-len_at.result c.put_length.result x y z (omega arith)
-    c.put-id_at.ensures.writes c.put-id_at.ensures.ends c.put_id-len_at.ensures.writes c.put_id-len_at.ensures.ends
-    c.put_length.ensures.writes c.put_length.ensures.ends in
-    let m = three-ends old c.put-id_at.new.out c.put_id-len_at.new.out c.put_length.new.out
-    c.args.at c.put-id_at.result c.put_id-len_at.result c.put_length.result x y z (omega arith)
-    c.put-id_at.ensures.writes c.put-id_at.ensures.ends c.put_id-len_at.ensures.writes c.put_id-len_at.ensures.ends
-    c.put_length.ensures.writes c.put_length.ensures.ends in
-    let s = k.size_is in
-    record {
-      answers = room_answer (length old) c.args.at c.put_length.result c.args.len
-          (short_header c.args.kind c.args.id c.args.len) k.short m (omega arith);
-      writes = w ∙ ap (λ (b : ℕ). written old c.args.at (b ∷ (y ++ z))) k.type_is;
-    }
+    let at = c.args.at in
+    let x = short_id c.args.tag.id in
+    let y = short_length c.args.len in
+    let l = length-append x y in
+    let e : c.in_ok-t.t ≡ short_type c.args.tag.kind c.args.tag.id c.args.len = grind arith in
+    let k : c.if-tag-lt256.id_size ≡ length x = grind arith in
+    let i = c.put_number-len_at.ensures.writes ∙ ap (written _ _) (id_bytes _ c.args.tag.id (omega arith) k) in
+    let n = c.put_number.ensures.writes ∙ ap (written _ _) (length_bytes (c.in_ok-t.size - 1 - c.if-tag-lt256.id_size) c.args.len (grind arith) (grind arith)) in
+    let m = written_next old _ _ (c.in_ok-t.t ∷ []) x at _ c.put-id_at.ensures.writes c.put-id_at.ensures.ends (grind arith) i in
+    written_next old _ _ (c.in_ok-t.t ∷ x) y at _ m (omega arith) (grind arith) n ∙ ap (λ (t : ℕ). written old at (t ∷ (x ++ y))) e

@@ -1,5 +1,0 @@
-use Rattle.tlv_laws.proofs.Examples.{worked-bytes}
-use Rattle.tlv_laws.proofs.worked.worked.Goals as goal
-
-pub returns : goal.returns
-returns c = worked-bytes
