@@ -1,4 +1,4 @@
-// Runs scenarios: from standard input, or each file that is named.
+//! Runs scenarios: from standard input, or each file that is named.
 #![tactic(auto)]
 
 ghost use Rattle.std.specs.Prelude.{◌≡◌, [], OnOk};
@@ -13,9 +13,8 @@ use std::process::ExitCode;
 fn run_line(rt: &HostRuntime, session: &mut Session, line: &mut Vec<u8>) -> anyhow::Result<()>
     ensures { OnOk result (line.new.items ≡ []) }
 {
-    let heap = rt.alloc();
-    let mut out = Vec::new(heap);
-    session.run(heap, line.as_slice(), &mut out)?;
+    let mut out = Vec::new(rt.alloc());
+    session.run(line.as_slice(), &mut out)?;
     rt.write_all(out.as_slice())?;
     line.clear();
     Ok(())

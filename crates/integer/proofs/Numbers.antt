@@ -1,14 +1,14 @@
 -- The numbers that bytes stand for: their range, and the eight bytes of a number.
-use Rattle.std.proofs.Common.{◌≡◌, ℕ, zero, suc, ◌+◌, ◌-◌, ◌*◌, ◌/◌, ◌%◌, ◌^◌, ◌<◌, ◌≤◌, true, false, ltb, List, [], ◌∷◌, ◌++◌, length, get_or, take, drop, ℤ, pos, negsuc, ◌+ℤ◌, ◌*ℤ◌, Some, sym, refl, ap, ◌∙◌, subst, mul_assoc, pow-suc, arith, length-append, w8, w64, SFits, of_z, to_z}
+use Rattle.std.proofs.Common.{◌≡◌, ℕ, zero, suc, ◌-◌, ◌*◌, ◌/◌, ◌%◌, ◌^◌, ◌<◌, ◌≤◌, true, false, ltb, List, [], ◌∷◌, ◌++◌, length, get_or, ℤ, pos, negsuc, ◌+ℤ◌, ◌*ℤ◌, Some, sym, refl, ap, ◌∙◌, subst, mul_assoc, pow-suc, arith, length-append, w8, w16, w32, w64, SFits, of_z, to_z}
 use native.Mathlib.Nat.{pow-succ', pow-le-pow_right, div-div-eq-div-mul}
 use lib.Signed.{mag}
 use Rattle.std.proofs.lemmas.Bool.Decides.{nat_tests}
 use Rattle.std.proofs.lemmas.Grind.{common_steps}
-use Rattle.std.proofs.lemmas.Int.{ints, to_z-of_z}
-use Rattle.std.specs.Int.{to_be_bytes}
-use Rattle.std.proofs.lemmas.List.{take_more, get_or-take, get_or-drop, get_or_past, length-take, length-take-le}
+use Rattle.std.proofs.lemmas.Int.{ints, to_z-of_z, of_z-to_z}
+use Rattle.std.proofs.lemmas.Nat.{be_bytes_8}
+use Rattle.std.specs.Int.{to_be_bytes, from_be_bytes}
 use Rattle.std.proofs.lemmas.Bool.{lt-ltb, le-ltb}
-use Rattle.integer.specs.Integer.{signed_byte, onward, signed, is_width, Bytes, low_bytes, eight_bytes, kept_of, number_of, spare_half, shortest}
+use Rattle.integer.specs.Integer.{signed_byte, onward, signed, is_width, Bytes, low_bytes, eight_bytes, kept_form, kept_of, number_of, spare_half, shortest}
 use Rattle.integer.specs.Laws.{Smallest, Kept, KeptNumber}
 use Rattle.integer.proofs.Widths.{signed_same}
 use Rattle.integer.proofs.Halves.{shortest_kept, shortest-stops}
@@ -113,40 +113,56 @@ signed-mag (x ∷ xs) n b l =
 pub signed-fits : (xs : List ℕ) → Bytes xs → length xs ≤ 8 → SFits w64 (signed xs)
 signed-fits xs b l = record { sfits = signed-mag xs 7 b l }
 
-take-bytes : (n : ℕ) (xs : List ℕ) → Bytes xs → Bytes (take n xs)
-take-bytes n xs b k = grind (arith, get_or-take, get_or_past, length-take, b k)
+-- The bytes of a number as the library writes them.
+eight_be : (n : ℤ) → to_be_bytes w64 (of_z w64 n) ≡ eight_bytes n
+eight_be n = sym (eight_unsigned n ∙ eight_places (of_z w64 n))
 
--- Reading byte by byte.
-pub signed_first : (v : List ℕ) → 0 < length v → get_or v 0 0 < 256 → to_z w8 (get_or v 0 0) ≡ signed (take 1 v)
+-- The library reads a width at once.
+fits : (u : ℕ) → u < 2 ^ 64 → SFits w64 (to_z w64 u)
+fits u h = record { sfits = grind (arith, nat_tests, ints) }
+
+worth : (v : List ℕ) → Bytes v → from_be_bytes w64 v < 2 ^ 64
+worth v b = omega (arith, b 0, b 1, b 2, b 3, b 4, b 5, b 6, b 7)
+
+pub eight : (v : List ℕ) → Bytes v → length v ≡ 8 → to_z w64 (from_be_bytes w64 v) ≡ signed v
+eight v b l =
+    let u = from_be_bytes w64 v in
+    let z = to_z w64 u in
+    sym (eight-signed z (fits u (worth v b)))
+    ∙ ap signed (sym (eight_be z) ∙ ap (to_be_bytes w64) (of_z-to_z w64 u (worth v b)) ∙ be_bytes_8 v u l b refl)
+
+pub one : (v : List ℕ) → Bytes v → length v ≡ 1 → to_z w8 (get_or v 0 0) ≡ signed v
 unfolding signed
-signed_first v h b = grind (arith, nat_tests, ints)
+one [] b l = absurd (omega arith)
+one (x ∷ []) b l = let i = b 0 in grind (arith, nat_tests, ints)
+one (x ∷ y ∷ v) b l = absurd (omega arith)
 
-signed_mag : (v : List ℕ) (i : ℕ) → Bytes v → i + 1 < length v → length v ≤ 8 → mag (signed (take (i + 1) v)) < 2 ^ 55
-signed_mag v i b h l =
-    let n : length (take (i + 1) v) ≡ i + 1 = length-take-le (i + 1) v (omega arith) in
-    signed-mag (take (i + 1) v) 6 (take-bytes (i + 1) v b) (omega arith)
+pub two : (v : List ℕ) → Bytes v → length v ≡ 2 → to_z w16 (from_be_bytes w16 v) ≡ signed v
+unfolding signed
+two [] b l = absurd (omega arith)
+two (x ∷ []) b l = absurd (omega arith)
+two (x ∷ y ∷ []) b l = let i = b 0 in let j = b 1 in grind (arith, nat_tests, ints)
+two (x ∷ y ∷ z ∷ v) b l = absurd (omega arith)
 
-pushed : (z : ℤ) (x : ℕ) → mag z < 2 ^ 55 → x < 256 → to_z w64 (of_z w64 (to_z w64 (of_z w64 (z *ℤ pos 256)) +ℤ pos x)) ≡ z *ℤ pos 256 +ℤ pos x
-pushed z x m l =
-    let f : SFits w64 (z *ℤ pos 256) = record { sfits = omega (arith, ints) } in
-    let g : SFits w64 (z *ℤ pos 256 +ℤ pos x) = record { sfits = step_mag z (2 ^ 55) x l m } in
-    rw (to_z-of_z w64 (z *ℤ pos 256) f) (to_z-of_z w64 (z *ℤ pos 256 +ℤ pos x) g)
+four_bytes : (x y z t : ℕ) → x < 256 → y < 256 → z < 256 → t < 256 → to_z w32 (from_be_bytes w32 (x ∷ y ∷ z ∷ t ∷ [])) ≡ signed (x ∷ y ∷ z ∷ t ∷ [])
+unfolding signed
+four_bytes x y z t i j k l = grind (arith, nat_tests, ints)
 
--- One more byte is read, and nothing overflows.
-pub signed_room : (v : List ℕ) (i : ℕ) (z : ℤ) → z ≡ signed (take (i + 1) v) → Bytes v → i + 1 < length v → length v ≤ 8 → SFits w64 (z *ℤ pos 256)
-signed_room v i z e b h l =
-    let m : mag z < 2 ^ 55 = subst (λ (y : ℤ). mag y < 2 ^ 55) (sym e) (signed_mag v i b h l) in
-    record { sfits = omega (arith, ints) }
+pub four : (v : List ℕ) → Bytes v → length v ≡ 4 → to_z w32 (from_be_bytes w32 v) ≡ signed v
+four [] b l = absurd (omega arith)
+four (x ∷ []) b l = absurd (omega arith)
+four (x ∷ y ∷ []) b l = absurd (omega arith)
+four (x ∷ y ∷ z ∷ []) b l = absurd (omega arith)
+four (x ∷ y ∷ z ∷ t ∷ []) b l = four_bytes x y z t (b 0) (b 1) (b 2) (b 3)
+four (x ∷ y ∷ z ∷ t ∷ u ∷ v) b l = absurd (omega arith)
 
-behind_first : (v : List ℕ) (i : ℕ) → i + 1 < length v → get_or (take (length v - 1) (drop 1 v)) i 0 ≡ get_or v (i + 1) 0
-behind_first v i h = get_or-take (length v - 1) (drop 1 v) i 0 (omega arith) ∙ get_or-drop 1 v i 0 ∙ ap (λ (k : ℕ). get_or v k 0) (omega arith)
+pub width_most : (n : ℕ) → is_width n ≡ true → n ≤ 8
+unfolding is_width
+width_most n h = grind (arith, nat_tests)
 
-pub signed_more : (v : List ℕ) (i : ℕ) (z y : ℤ) → z ≡ signed (take (i + 1) v) → y ≡ pos (get_or (take (length v - 1) (drop 1 v)) i 0) → Bytes v → i + 1 < length v → length v ≤ 8
-    → to_z w64 (of_z w64 (to_z w64 (of_z w64 (z *ℤ pos 256)) +ℤ y)) ≡ signed (take (i + 1 + 1) v)
-signed_more v i z y e f b h l =
-    let n : length (take (i + 1) v) ≡ i + 1 = length-take-le (i + 1) v (omega arith) in
-    rw (e, f, behind_first v i h) (pushed (signed (take (i + 1) v)) (get_or v (i + 1) 0) (signed_mag v i b h l) (b (i + 1))
-    ∙ sym (ap signed (take_more v (i + 1) 0 h) ∙ signed_push (take (i + 1) v) (get_or v (i + 1) 0) (omega arith)))
+-- The same as the code has it, which keeps a number as 64 bits.
+pub numbered : (v : List ℕ) (z : ℤ) → Bytes v → is_width (length v) ≡ true → z ≡ signed v → Some (to_z w64 (of_z w64 z)) ≡ number_of v
+numbered v z b w e = rw (w, e) (ap Some (to_z-of_z w64 (signed v) (signed-fits v b (width_most (length v) w))))
 
 -- Only one list of bytes is the smallest form of a number.
 unique : (z : ℤ) (r s : List ℕ) → Smallest z r → Smallest z s → r ≡ s
@@ -158,10 +174,6 @@ unique z r s p q =
 pub kept_of-smallest : (z : ℤ) → SFits w64 z → Smallest z (kept_of z)
 kept_of-smallest z f = subst (λ (n : ℤ). Smallest n (kept_of z)) (eight-signed z f) (shortest_kept (eight_bytes z) (eight_bytes_lem z) (eight-width z)).smallest
 
-pub width_most : (n : ℕ) → is_width n ≡ true → n ≤ 8
-unfolding is_width
-width_most n h = grind (arith, nat_tests)
-
 -- Writing the number that was read gives the kept form.
 pub kept_of_signed : (v : List ℕ) → Bytes v → is_width (length v) ≡ true → kept_of (signed v) ≡ shortest v
 kept_of_signed v b w =
@@ -169,9 +181,8 @@ kept_of_signed v b w =
     (kept_of-smallest (signed v) (signed-fits v b (width_most (length v) w)))
     (shortest_kept v b w).smallest
 
--- The same as the code has it, which keeps a number as 64 bits.
-pub written_again : (v : List ℕ) → Bytes v → is_width (length v) ≡ true → kept_of (to_z w64 (of_z w64 (signed v))) ≡ shortest v
-written_again v b w = rw (to_z-of_z w64 (signed v) (signed-fits v b (width_most (length v) w))) (kept_of_signed v b w)
+pub written_again : (v : List ℕ) (z : ℤ) → Bytes v → is_width (length v) ≡ true → z ≡ signed v → Some (kept_of (to_z w64 (of_z w64 z))) ≡ kept_form v
+written_again v z b w e = rw (w, e, to_z-of_z w64 (signed v) (signed-fits v b (width_most (length v) w))) (ap Some (kept_of_signed v b w))
 
 -- Reading the number that was written gives it back.
 pub number_of-kept_of : (z : ℤ) → SFits w64 z → number_of (kept_of z) ≡ Some z
@@ -179,10 +190,6 @@ number_of-kept_of z f =
     let s = kept_of-smallest z f in
     let w = s.width in
     rw w (ap Some s.number)
-
--- The bytes of a number as a processor has them.
-eight_be : (n : ℤ) → to_be_bytes w64 (of_z w64 n) ≡ eight_bytes n
-eight_be n = sym (eight_unsigned n ∙ eight_places (of_z w64 n))
 
 eight_kept : (n : ℤ) → Kept (eight_bytes n) (kept_of n)
 eight_kept n = shortest_kept (eight_bytes n) (eight_bytes_lem n) (eight-width n)

@@ -21,7 +21,7 @@ fn spare_half(v: &[u8]) -> bool
     !high.is_empty() && high.iter().all(|b| *b == fill_of(low[0]))
 }
 
-// The same number without spare halves.
+/// The same number without spare halves.
 #[tactic(auto, using(crate::proofs::Halves::spare_some, crate::proofs::Halves::shortest_more, crate::proofs::Halves::shortest_done))]
 pub fn shorten(v: &[u8]) -> &[u8]
     ensures { result.now ≡ shortest v.now }
@@ -34,7 +34,7 @@ pub fn shorten(v: &[u8]) -> &[u8]
     }
 }
 
-// The same number in the smallest width; `None` where `v` has not the length of an integer.
+/// The same number in the smallest width; `None` where `v` has not the length of an integer.
 #[tactic(auto, using(crate::proofs::Halves::shortest_kept))]
 pub fn kept(v: &[u8]) -> Option<&[u8]>
     ensures form { option_map (λ x. x.now) result ≡ kept_form v.now }

@@ -5,8 +5,8 @@ ghost use Rattle.integer.specs.Laws.{KeptNumber};
 use super::halving::shorten;
 use std::marker::Model;
 
-// A number in its kept form: callers see its eight bytes without the spare halves.
-#[derive(Clone, Copy)]
+/// A number in its kept form: callers see its eight bytes without the spare halves.
+#[derive(Clone, Copy, PartialEq, Eq, Debug)]
 pub struct KeptInteger {
     bytes: [u8; 8],
 }
@@ -38,7 +38,7 @@ impl From<i64> for KeptInteger {
 }
 
 impl KeptInteger {
-    // The bytes of the number.
+    /// The bytes of the number.
     #[tactic(auto, using(crate::proofs::Numbers::held_width, crate::proofs::Numbers::held_short))]
     pub fn as_slice(&self) -> &[u8]
         ensures bytes { result.now ≡ self.now }

@@ -1,8 +1,8 @@
-// Integers in two's complement of 1, 2, 4 or 8 bytes, high byte first, and the form in which they are kept:
-// the same number in the smallest of these widths.
+//! Integers in two's complement of 1, 2, 4 or 8 bytes, high byte first, and the form in which they are kept:
+//! the same number in the smallest of these widths.
 #![tactic(auto)]
 
-// Which lengths are widths, and what holds of bytes of such a length.
+// Which lengths are widths.
 mod width;
 // The kept form of bytes: the high half is dropped while it only repeats the sign.
 mod halving;
@@ -42,7 +42,7 @@ mod tests {
         agrees(&rt, -129, &[0xFF, 0x7F], &[0xFF, 0xFF, 0xFF, 0x7F])?;
         agrees(
             &rt,
-            65535,
+            65_535,
             &[0, 0, 0xFF, 0xFF],
             &[0, 0, 0, 0, 0, 0, 0xFF, 0xFF],
         )?;

@@ -1,25 +1,37 @@
 ghost use Rattle.std.specs.Prelude.{◌≡◌, ◌+◌, length, IfSome};
 ghost use Rattle.std.specs.Option.{option_map};
-ghost use Rattle.lexer.specs.Chars.{in_class, front_of, rest_of, behind};
+ghost use Rattle.lexer.specs.Chars.{is_blank, is_closing, in_class, front_of, rest_of, behind};
 
-// A class of characters, by which a text is split: a closed choice and no closure, because each caller's contract
-// names the class.
-#[derive(Clone, Copy)]
+/// A class of characters, by which a text is split: a closed choice and no closure, because each contract
+/// names its class.
+#[derive(Clone, Copy, PartialEq, Eq, Debug)]
 pub enum Class {
-    // Space, tab and carriage return.
+    /// Space, tab and carriage return.
     Blank,
-    // 0 to 9.
+    /// 0 to 9.
     Digit,
-    // Whatever is no blank.
+    /// Whatever is no blank.
     Word,
-    // Whatever is neither a blank nor a closing bracket.
+    /// Whatever is neither a blank nor a closing bracket.
     Value,
-    // ] and }.
+    /// ] and }.
     Closing,
-    // Whatever is no double quote.
+    /// Whatever is no double quote.
     Quoted,
-    // Whatever is no colon, [ or @.
+    /// Whatever is no colon, [ or @.
     Unmarked,
+}
+
+fn is_blank(c: u8) -> bool
+    ensures { result ≡ is_blank c }
+{
+    matches!(c, b' ' | b'\t' | b'\r')
+}
+
+fn is_closing(c: u8) -> bool
+    ensures { result ≡ is_closing c }
+{
+    matches!(c, b']' | b'}')
 }
 
 impl Class {
@@ -27,18 +39,18 @@ impl Class {
         ensures { result ≡ in_class self c }
     {
         match self {
-            Class::Blank => matches!(c, b' ' | b'\t' | b'\r'),
+            Class::Blank => is_blank(c),
             Class::Digit => matches!(c, b'0'..=b'9'),
-            Class::Word => !matches!(c, b' ' | b'\t' | b'\r'),
-            Class::Value => !matches!(c, b' ' | b'\t' | b'\r' | b']' | b'}'),
-            Class::Closing => matches!(c, b']' | b'}'),
+            Class::Word => !is_blank(c),
+            Class::Value => !is_blank(c) && !is_closing(c),
+            Class::Closing => is_closing(c),
             Class::Quoted => c != b'"',
             Class::Unmarked => !matches!(c, b':' | b'[' | b'@'),
         }
     }
 }
 
-// The longest front of characters of the class, and what stands behind it.
+/// The longest front of characters of the class, and what stands behind it.
 pub fn split(class: Class, text: &[u8]) -> (&[u8], &[u8])
     ensures front { result.0.now ≡ front_of class text.now }
     ensures rest { result.1.now ≡ rest_of class text.now }
@@ -48,13 +60,10 @@ pub fn split(class: Class, text: &[u8]) -> (&[u8], &[u8])
     text.split_at(n)
 }
 
-// The text behind the character `c`, if it begins with that.
+/// The text behind the character `c`, if it begins with that.
 pub fn strip(c: u8, text: &[u8]) -> Option<&[u8]>
     ensures behind { option_map (λ x. x.now) result ≡ behind c text.now }
     ensures shorter { IfSome result (λ t. length t.now + 1 ≡ length text.now) }
 {
-    match text {
-        [first, rest @ ..] if *first == c => Some(rest),
-        _ => None,
-    }
+    text.strip_prefix(&[c])
 }

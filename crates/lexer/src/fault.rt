@@ -7,8 +7,8 @@ use crate::chars::{Class, split};
 use std::alloc::{AllocError, AllocFailed};
 use std::fmt;
 
-// What should have stood in a line.
-#[derive(Clone, Copy)]
+/// What should have stood in a line.
+#[derive(Clone, Copy, PartialEq, Eq, Debug)]
 pub enum Expected {
     Text,
     ShorterLine,
@@ -60,8 +60,9 @@ impl fmt::Display for Expected {
     }
 }
 
-// A line that cannot be read: what was expected, in place of the bytes from `from` up to `to`.
-#[derive(Clone, Copy)]
+/// A line that cannot be read: what was expected, in place of the bytes from `from` up to `to`: two numbers,
+/// because a `Range` is not `Copy`.
+#[derive(Clone, Copy, PartialEq, Eq, Debug)]
 pub struct BadLine {
     pub expected: Expected,
     pub from: usize,
@@ -69,7 +70,7 @@ pub struct BadLine {
 }
 
 impl BadLine {
-    // The bytes at fault in their line; none in a shorter one.
+    /// The bytes at fault in their line; none in a shorter one.
     pub fn part(self, line: &[u8]) -> &[u8]
         ensures { result.now ≡ part_of self line.now }
     {
@@ -77,14 +78,14 @@ impl BadLine {
     }
 }
 
-// Where reading stopped: what was expected, and how many bytes were left then.
-#[derive(Clone, Copy)]
+/// Where reading stopped: what was expected, and how many bytes were left then.
+#[derive(Clone, Copy, PartialEq, Eq, Debug)]
 pub struct Misread {
     pub expected: Expected,
     pub left: usize,
 }
 
-// Reading stopped where `text` is left.
+/// Reading stopped where `text` is left.
 pub fn stopped_at(expected: Expected, text: &[u8]) -> Misread
     ensures { result ≡ stopped expected text.now }
 {
@@ -94,7 +95,7 @@ pub fn stopped_at(expected: Expected, text: &[u8]) -> Misread
     }
 }
 
-// The bytes of the whole text that are at fault: the rest of the word at which reading stopped.
+/// The bytes of the whole text that are at fault: the rest of the word at which reading stopped.
 pub fn blame(misread: Misread, whole: &[u8]) -> BadLine
     ensures { result ≡ blamed whole.now misread }
 {
@@ -107,15 +108,15 @@ pub fn blame(misread: Misread, whole: &[u8]) -> BadLine
     }
 }
 
-// Why a text gave no bytes: what is wrong with it, or want of memory.
-#[derive(Clone, Copy)]
+/// Why a text gave no bytes: what is wrong with it, or want of memory.
+#[derive(Clone, Copy, PartialEq, Eq, Debug)]
 pub enum Fault<E> {
     Wrong(E),
     NoMemory(AllocError),
 }
 
 impl<E> Fault<E> {
-    // The same fault, where `turn` makes another of what is wrong.
+    /// The same fault, where `turn` makes another of what is wrong.
     pub fn map<T, F: FnOnce(E) -> T>(self, turn: F) -> Fault<T>
         requires { ForWrong self (F.pre turn) }
         ensures { Turned (F.post turn) self result }

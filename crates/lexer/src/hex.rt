@@ -18,7 +18,7 @@ fn pair(a: u8, b: u8) -> Option<u8>
     Some(hex_digit(a)? * 16 + hex_digit(b)?)
 }
 
-// The bytes that pairs of hexadecimal digits write, with blanks between the pairs or none.
+/// The bytes that pairs of hexadecimal digits write, with blanks between the pairs or none.
 #[tactic(auto, using(crate::proofs::Pairs::hex_skips, crate::proofs::Pairs::hex_step, crate::proofs::Pairs::skipped), unfolding(crate::specs::Hex::hex_of))]
 pub fn hex_bytes(heap: Global, text: &[u8]) -> Result<Vec<u8>, Fault<Misread>>
     ensures { Gives result (hex_of text.now) }
@@ -33,6 +33,6 @@ pub fn hex_bytes(heap: Global, text: &[u8]) -> Result<Vec<u8>, Fault<Misread>>
     if rest.is_empty() {
         Ok(bytes)
     } else {
-        Err(Fault::Wrong(stopped_at(Expected::HexPair, rest)))
+        Err(stopped_at(Expected::HexPair, rest).into())
     }
 }

@@ -1,4 +1,6 @@
-// Characters, words, numbers and lines of a text, and what should have stood where reading stopped.
+//! Characters, words, numbers and lines of a text, and what should have stood where reading stopped.
+//! A text is bytes and no &str, because what comes in may be any bytes: whether they are text is a test of its
+//! own, whose answer people are told.
 #![tactic(auto)]
 
 // Classes of characters, by which a text is split.
@@ -19,7 +21,7 @@ pub use fault::{BadLine, Expected, Fault, Misread, blame, stopped_at};
 pub use hex::hex_bytes;
 pub use line::{LONGEST_LINE, is_text, uncommented};
 pub use numbers::{decimal, number};
-pub use words::{Narrow, narrow_number, next_word, skip_blanks};
+pub use words::{narrow_number, next_word, skip_blanks};
 
 #[cfg(test)]
 mod tests {
@@ -91,7 +93,7 @@ mod tests {
             Ok(read) => {
                 assert!(rt; read.as_slice() == bytes);
                 Ok(())
-            },
+            }
             Err(_) => Err(Fail::new("refused")),
         }
     }
@@ -102,7 +104,7 @@ mod tests {
             Err(Fault::Wrong(bad)) => {
                 assert!(rt; bad.part(text) == part);
                 Ok(())
-            },
+            }
             _ => Err(Fail::new("not refused")),
         }
     }

@@ -4,7 +4,7 @@ ghost use Rattle.lexer.specs.Lines.{comment_at, trimmed_of, body_of, plain, Text
 
 use crate::chars::Class;
 
-// The most bytes that a line may have.
+/// The most bytes that a line may have.
 pub const LONGEST_LINE: usize = 16_384;
 
 // The line up to its comment: a `#` outside double quotes begins one.
@@ -34,7 +34,7 @@ fn trimmed(mut text: &[u8]) -> &[u8]
     text
 }
 
-// The line without its comment and without blanks at the end.
+/// The line without its comment and without blanks at the end.
 pub fn uncommented(line: &[u8]) -> &[u8]
     ensures { result.now ≡ body_of line.now }
 {
@@ -49,7 +49,7 @@ fn is_plain(text: &str) -> bool
         .all(|c| !c.is_control() || c == '\t' || c == '\r')
 }
 
-// Whether the bytes are text: UTF-8, with no control character but tab and carriage return.
+/// Whether the bytes are text: UTF-8, with no control character but tab and carriage return.
 #[tactic(auto, using(crate::proofs::Characters::text_told, crate::proofs::Characters::not_told))]
 pub fn is_text(line: &[u8]) -> bool
     ensures { Decides result (Text line.now) }

@@ -1,7 +1,8 @@
 -- THE PAYLOAD NOTATION. A reader takes a text, and gives bytes and the text that is left behind them, or tells
 -- what it expected and where.
-use Rattle.std.specs.Prelude.{◌≡◌, ◌<◌, ℕ, zero, suc, Bool, false, cond, not, List, [], ◌∷◌, ◌++◌, length, ℤ, Some, None, Ok, Err, vec_items, codes, Option, Result, ◌==◌, nat_lt}
-use Rattle.std.specs.Option.{ok_or}
+use Rattle.std.specs.Prelude.{◌≡◌, ◌<◌, ℕ, zero, suc, Bool, false, cond, not, List, [], ◌∷◌, ◌++◌, length, Some, None, Ok, Err, vec_items, codes, Option, Result, ◌==◌, nat_lt}
+use Rattle.std.specs.Option.{ok_or, option_map}
+use Rattle.std.specs.Result.{result_map_both}
 use Rattle.tlv.specs.declared.header.Kind.{Kind}
 use Rattle.tlv.specs.declared.header.Kind.TheVariants.{ObjectInstance, ResourceInstance, MultipleResource, Resource}
 use Rattle.integer.specs.Integer.{kept_of}
@@ -47,16 +48,11 @@ with_rest r rest = then r (λ bs. Ok (bs, rest))
 
 -- a fault of a word is told at its first character, where the text `t` is left
 abbrev pub told : List ℕ → Result (List ℕ) Misread → Result (List ℕ) Misread
-told t (Ok bs) = Ok bs
-told t (Err e) = Err (stopped e.expected t)
+told t r = result_map_both (λ bs. bs) (λ e. stopped e.expected t) r
 
--- a number in its kept form
-abbrev pub kept_bytes : List ℕ → Option ℤ → Result (List ℕ) Misread
-kept_bytes word None = Err (stopped expected.Value word)
-kept_bytes word (Some z) = Ok (kept_of z)
-
+-- a number without x is in its kept form
 abbrev pub hex_or_decimal : List ℕ → Option (List ℕ) → Result (List ℕ) Misread
-hex_or_decimal word None = kept_bytes word (decimal_of word)
+hex_or_decimal word None = ok_or (option_map kept_of (decimal_of word)) (stopped expected.Value word)
 hex_or_decimal word (Some digits) = hex_of digits
 
 -- a word: x and pairs of hexadecimal digits, or a number

@@ -8,7 +8,7 @@ use std::alloc::Global;
 use tlv::{Tag, short_header};
 use tlv_writer::append_entry;
 
-// An entry in shortest form; one that is too long is told at `text`.
+/// An entry in shortest form; one that is too long is told at `text`.
 #[tactic(auto, unfolding(crate::specs::Notation::entry_of))]
 pub fn encode(heap: Global, tag: Tag, text: &[u8], value: &[u8]) -> Result<Vec<u8>, Fault<Misread>>
     ensures { Gives result (entry_of tag.kind tag.id text.now value.now) }
@@ -20,7 +20,7 @@ pub fn encode(heap: Global, tag: Tag, text: &[u8], value: &[u8]) -> Result<Vec<u
     Ok(bytes)
 }
 
-// The number at the front, and the text behind it.
+/// The number at the front, and the text behind it.
 pub fn numbered(text: &[u8]) -> Result<(u16, &[u8]), Misread>
     ensures reads { result_map_both (λ n. (n.0, n.1.now)) (λ e. e) result ≡ numbered_of text.now }
     ensures within { IfOk result (λ n. length n.1.now ≤ length text.now) }

@@ -1,4 +1,4 @@
-// Payloads written as text: entries, values and pairs of hexadecimal digits.
+//! Payloads written as text: entries, values and pairs of hexadecimal digits.
 #![tactic(auto)]
 
 // Bytes that were read, with the text left behind them.
@@ -7,7 +7,7 @@ mod piece;
 mod value;
 // Entries in their shortest form.
 mod entry;
-// Sequences of anything.
+// Items one behind another, and blocks of them between brackets.
 mod items;
 // The entries that stand in one another.
 mod entries;
@@ -23,7 +23,7 @@ mod tests {
     use std::alloc::Global;
     use std::process::Abort;
 
-    // Each case goes through a function without a contract, so that no proof looks into its bytes.
+    // A function without a contract takes any bytes: it is proved once, and a case needs no proof of its own.
     fn gives(rt: &impl Abort, heap: Global, text: &[u8], bytes: &[u8]) {
         assert!(rt; payload(heap, text).is_ok_and(|v| v.as_slice() == bytes));
     }

@@ -36,7 +36,7 @@ fn bytes_of(heap: Global, text: &[u8]) -> Result<Vec<u8>, Fault<Misread>>
     }
 }
 
-// The bytes of a payload's text.
+/// The bytes of a payload's text.
 pub fn payload(heap: Global, text: &[u8]) -> Result<Vec<u8>, Fault<BadLine>>
     ensures { Gives result (payload_of text.now) }
 {

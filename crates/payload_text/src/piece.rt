@@ -6,15 +6,15 @@ use lexer::{Fault, Misread};
 use std::alloc::Global;
 use tlv::Tag;
 
-// Bytes that were read, and the text that is left behind them.
-#[derive(Drop)]
+/// Bytes that were read, and the text that is left behind them.
+#[derive(Debug, PartialEq, Eq, Drop)]
 pub struct Piece<'a> {
     pub bytes: Vec<u8>,
     pub rest: &'a [u8],
 }
 
 impl<'a> Piece<'a> {
-    // The entry whose value are these bytes, before the same text; one that is too long is told at `text`.
+    /// The entry whose value are these bytes, before the same text; one that is too long is told at `text`.
     pub fn into_entry(
         self,
         heap: Global,

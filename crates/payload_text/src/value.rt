@@ -7,7 +7,7 @@ use integer::KeptInteger;
 use lexer::{Class, Expected, Fault, Misread, decimal, hex_bytes, split, stopped_at, strip};
 use std::alloc::Global;
 
-// Whether a value or a block may end before this text.
+/// Whether a value or a block may end before this text.
 pub fn end(text: &[u8]) -> Result<(), Misread>
     ensures { result ≡ end_of text.now }
 {

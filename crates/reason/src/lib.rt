@@ -1,3 +1,4 @@
+//! Why a call is turned away, and the response codes.
 #![tactic(auto)]
 
 ghost use Rattle.std.specs.Prelude.{◌≡◌, Some};
@@ -5,18 +6,18 @@ ghost use Rattle.reason.specs.Reason.{number_of, code_of, code_text};
 
 use std::fmt;
 
-// Why a call is turned away. Each reason has a number of its own, and goes with one response code.
+/// Why a call is turned away. Each reason has a number of its own, and goes with one response code.
 #[derive(Clone, Copy, PartialEq, Eq, Debug)]
 pub enum Reason {
-    // The payload is no sequence of whole, allowed entries, or is too long.
+    /// The payload is no sequence of whole, allowed entries, or is too long.
     NotWellFormed = 10,
-    // A value or a number does not fit where it is meant to go.
+    /// A value or a number does not fit where it is meant to go.
     DoesNotFit = 13,
-    // A buffer or the memory is too small.
+    /// A buffer or the memory is too small.
     NoRoom = 17,
 }
 
-// A response code, under the name that the protocol gives it.
+/// A response code, under the name that the protocol gives it.
 #[derive(Clone, Copy, PartialEq, Eq, Debug)]
 pub enum Code {
     BadRequest,

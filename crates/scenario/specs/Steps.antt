@@ -1,6 +1,7 @@
 -- The steps of a scenario.
 use Rattle.std.specs.Prelude.{◌≡◌, ℕ, ◌<◌, ◌≤◌, Bool, true, false, cond, List, length, ℤ, Some, None, Ok, Err, codes, Option, Result, ◌==◌}
 use Rattle.std.specs.Option.{ok_or}
+use Rattle.std.specs.Result.{result_map_both}
 use Rattle.tlv.specs.declared.header.Kind.{Kind}
 use Rattle.tlv.specs.declared.header.Kind.TheVariants.{ObjectInstance, ResourceInstance, MultipleResource, Resource}
 use Rattle.lexer.specs.declared.fault.Expected.{Expected}
@@ -39,12 +40,13 @@ meaning_of (step.Header tag n) = header tag.kind tag.id n
 meaning_of (step.Integer z) = integer z
 
 abbrev pub meant : {E : Type 0} → Result Step E → Result Meaning E
-meant (Ok s) = Ok (meaning_of s)
-meant (Err e) = Err e
+meant r = result_map_both meaning_of (λ e. e) r
 
-abbrev pub on_or_off : List ℕ → Result Bool Misread
-on_or_off t =
-    cond (same t (codes "on")) (Ok true) (cond (same t (codes "off")) (Ok false) (Err (stopped expected.OnOrOff t)))
+-- on or off
+abbrev pub echo_of : List ℕ → Result Meaning Misread
+echo_of t =
+    cond (same t (codes "on")) (Ok (echo true))
+    (cond (same t (codes "off")) (Ok (echo false)) (Err (stopped expected.OnOrOff t)))
 
 -- a kind, an identifier and a length
 unfoldable pub header_of : List ℕ → Result Meaning Misread
@@ -54,18 +56,19 @@ header_of t =
     then (ok_or (number_of 4294967295 (behind_word (behind_word t))) (stopped expected.Length (behind_word (behind_word t)))) (λ n.
     Ok (header k i n))))
 
-unfoldable pub integer_of : List ℕ → Result ℤ Misread
-integer_of t = ok_or (decimal_of t) (stopped expected.Decimal t)
+-- a signed number
+unfoldable pub integer_of : List ℕ → Result Meaning Misread
+integer_of t = then (ok_or (decimal_of t) (stopped expected.Decimal t)) (λ z. Ok (integer z))
 
 -- the step of the text `t`, whose first word is `w`, with `rest` behind it; no word at all is a blank line
 abbrev pub step_by_word : List ℕ → List ℕ → List ℕ → Result Meaning Misread
 step_by_word w rest t =
     cond (length w == 0) (Ok blank)
-    (cond (same w (codes "echo")) (then (on_or_off rest) (λ on. Ok (echo on)))
+    (cond (same w (codes "echo")) (echo_of rest)
     (cond (same w (codes "say")) (Ok (say rest))
     (cond (same w (codes "check")) (Ok (check rest))
     (cond (same w (codes "header")) (header_of rest)
-    (cond (same w (codes "integer")) (then (integer_of rest) (λ z. Ok (integer z)))
+    (cond (same w (codes "integer")) (integer_of rest)
     (Err (stopped expected.Step t)))))))
 
 -- the step of a text that begins with no blank

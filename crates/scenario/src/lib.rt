@@ -1,4 +1,4 @@
-// What the lines of a scenario ask for.
+//! What the lines of a scenario ask for.
 #![tactic(auto)]
 
 mod step;
@@ -11,7 +11,7 @@ mod tests {
     use std::process::Abort;
     use tlv::{Kind, Tag};
 
-    // Each case goes through a function without a contract, so that no proof looks into its bytes.
+    // A function without a contract takes any bytes: it is proved once, and a case needs no proof of its own.
     fn reads(rt: &impl Abort, line: &[u8], step: Step<'_>) {
         assert_eq!(rt; read_step(line).ok(), Some(step));
     }

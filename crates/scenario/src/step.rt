@@ -1,5 +1,5 @@
 ghost use Rattle.std.specs.Prelude.{◌≡◌};
-ghost use Rattle.scenario.specs.Steps.{kind_named, on_or_off, header_of, integer_of, step_of, meant, all_bad, Reads};
+ghost use Rattle.scenario.specs.Steps.{kind_named, echo_of, header_of, integer_of, step_of, meant, all_bad, Reads};
 
 use lexer::{
     BadLine, Expected, LONGEST_LINE, Misread, blame, decimal, is_text, narrow_number, next_word,
@@ -7,14 +7,14 @@ use lexer::{
 };
 use tlv::{Kind, Tag};
 
-// What a line asks for.
+/// What a line asks for.
 #[derive(Clone, Copy, Debug, PartialEq, Eq)]
 pub enum Step<'a> {
     Blank,
     Echo(bool),
-    // The text to print.
+    /// The text to print.
     Say(&'a [u8]),
-    // The payload's text.
+    /// The payload's text.
     Check(&'a [u8]),
     Header { tag: Tag, len: u32 },
     Integer(i64),
@@ -33,12 +33,13 @@ fn kind_named(word: &[u8]) -> Option<Kind>
     }
 }
 
-fn on_or_off(text: &[u8]) -> Result<bool, Misread>
-    ensures { result ≡ on_or_off text.now }
+// On or off.
+fn echo(text: &[u8]) -> Result<Step<'_>, Misread>
+    ensures { meant result ≡ echo_of text.now }
 {
     match text {
-        b"on" => Ok(true),
-        b"off" => Ok(false),
+        b"on" => Ok(Step::Echo(true)),
+        b"off" => Ok(Step::Echo(false)),
         _ => Err(stopped_at(Expected::OnOrOff, text)),
     }
 }
@@ -51,19 +52,21 @@ fn header(text: &[u8]) -> Result<Step<'_>, Misread>
     let (word, rest) = next_word(text);
     let kind = kind_named(word).ok_or(stopped_at(Expected::Kind, text))?;
     let (word, last) = next_word(rest);
-    let id = narrow_number::<u16>(word).ok_or(stopped_at(Expected::Number, rest))?;
-    let len = narrow_number::<u32>(last).ok_or(stopped_at(Expected::Length, last))?;
+    let id = narrow_number(word).ok_or(stopped_at(Expected::Number, rest))?;
+    let len = narrow_number(last).ok_or(stopped_at(Expected::Length, last))?;
     Ok(Step::Header {
         tag: Tag { kind, id },
         len,
     })
 }
 
+// A signed number.
 #[tactic(auto, unfolding(crate::specs::Steps::integer_of))]
-fn integer(text: &[u8]) -> Result<i64, Misread>
-    ensures { result ≡ integer_of text.now }
+fn integer(text: &[u8]) -> Result<Step<'_>, Misread>
+    ensures { meant result ≡ integer_of text.now }
 {
-    decimal(text).ok_or(stopped_at(Expected::Decimal, text))
+    let number = decimal(text).ok_or(stopped_at(Expected::Decimal, text))?;
+    Ok(Step::Integer(number))
 }
 
 // The step of a text that begins with no blank.
@@ -72,14 +75,15 @@ fn step_of(text: &[u8]) -> Result<Step<'_>, Misread>
     ensures { meant result ≡ step_of text.now }
 {
     let (word, rest) = next_word(text);
+    // Ahead of the match, because in its last arm a proof would meet every way to miss all the words at once.
     let unknown = Err(stopped_at(Expected::Step, text));
     match word {
         b"" => Ok(Step::Blank),
-        b"echo" => Ok(Step::Echo(on_or_off(rest)?)),
+        b"echo" => echo(rest),
         b"say" => Ok(Step::Say(rest)),
         b"check" => Ok(Step::Check(rest)),
         b"header" => header(rest),
-        b"integer" => Ok(Step::Integer(integer(rest)?)),
+        b"integer" => integer(rest),
         _ => unknown,
     }
 }
@@ -95,7 +99,7 @@ fn all_bad(expected: Expected) -> BadLine
     }
 }
 
-// What a line asks for.
+/// What a line asks for. Any bytes may come: too many, or no text, is an answer here and no premise.
 pub fn read_step(line: &[u8]) -> Result<Step<'_>, BadLine>
     ensures { Reads line.now result }
 {

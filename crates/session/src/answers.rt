@@ -24,7 +24,7 @@ fn form_of(heap: Global, payload: &[u8]) -> Result<String, AllocError>
     match rewrite(payload, &mut form) {
         Ok(None) => "shortest".to_string(heap),
         Ok(Some(len)) => hex::encode_upper(heap, &form[..len]),
-        Err(fault) => fault.to_string(heap),
+        Err(_) => unreachable!(),
     }
 }
 
@@ -37,20 +37,20 @@ fn put_summary(out: &mut Vec<u8>, payload: &[u8]) -> Result<(), AllocError>
     writeln!(out, "well formed, {} bytes, {form}", payload.len())
 }
 
-// The verdict on a payload, and its entries if it is well formed.
+/// The verdict on a payload, and its entries if it is well formed.
 pub fn put_check(out: &mut Vec<u8>, payload: &[u8]) -> Result<(), AllocError>
     ensures { Wrote out.old.items result (check_text payload.now) out.new.items }
 {
     match well_formed(payload) {
         Ok(()) => {
             put_summary(out, payload)?;
-            put_entries(out, 3, payload, Entries::of_payload(payload))
+            put_entries(out, 3, Entries::of_payload(payload))
         }
         Err(fault) => writeln!(out, "{fault}"),
     }
 }
 
-// The shortest header for a kind, an identifier and a length.
+/// The shortest header for a kind, an identifier and a length.
 pub fn put_header(out: &mut Vec<u8>, tag: Tag, len: usize) -> Result<(), AllocError>
     ensures { Wrote out.old.items result (header_text tag.kind tag.id len) out.new.items }
 {
@@ -65,7 +65,7 @@ pub fn put_header(out: &mut Vec<u8>, tag: Tag, len: usize) -> Result<(), AllocEr
     }
 }
 
-// A number as it is kept.
+/// A number as it is kept.
 pub fn put_integer(out: &mut Vec<u8>, n: i64) -> Result<(), AllocError>
     ensures { Wrote out.old.items result (integer_text n) out.new.items }
 {
@@ -73,7 +73,7 @@ pub fn put_integer(out: &mut Vec<u8>, n: i64) -> Result<(), AllocError>
     out.extend_from_slice(b"\n")
 }
 
-// A bad line: its number, what was expected, and the part of the text at fault.
+/// A bad line: its number, what was expected, and the part of the text at fault.
 pub fn put_bad(out: &mut Vec<u8>, number: u64, bad: BadLine, text: &[u8]) -> Result<(), AllocError>
     ensures { Wrote out.old.items result (bad_text number bad text.now) out.new.items }
 {

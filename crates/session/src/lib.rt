@@ -1,4 +1,4 @@
-// Running the lines of a scenario: what each one prints.
+//! Running the lines of a scenario: what each one prints.
 #![tactic(auto)]
 
 mod answers;

@@ -1,12 +1,12 @@
 ghost use Rattle.std.specs.Prelude.{◌≡◌, ◌≤◌};
-ghost use Rattle.tlv.specs.Walk.{entries_left};
+ghost use Rattle.tlv.specs.Walk.{entries_left, walked};
 ghost use Rattle.session.specs.Printed.{Wrote};
 ghost use Rattle.session.specs.Listing.{bytes_text, printable, quoted_text, value_text, entry_text, listing};
 
 use crate::text::{Append, put_hex};
 use integer::to_number;
 use std::alloc::AllocError;
-use tlv::{Entries, Entry, contents, value};
+use tlv::{Entries, Entry};
 
 // Bytes in hexadecimal, a dash for none.
 fn put_bytes(out: &mut Vec<u8>, bytes: &[u8]) -> Result<(), AllocError>
@@ -48,37 +48,37 @@ fn put_value(out: &mut Vec<u8>, v: &[u8]) -> Result<(), AllocError>
     put_quoted(out, v)
 }
 
-// The line of an entry.
-fn put_entry(out: &mut Vec<u8>, depth: usize, bytes: &[u8], e: Entry) -> Result<(), AllocError>
+// The line of one of these entries.
+fn put_entry(
+    out: &mut Vec<u8>,
+    depth: usize,
+    entries: Entries<'_>,
+    e: Entry,
+) -> Result<(), AllocError>
     requires { depth ≤ 2 }
-    ensures { Wrote out.old.items result (entry_text depth bytes.now e) out.new.items }
+    ensures { Wrote out.old.items result (entry_text depth (walked entries.entry) e) out.new.items }
 {
     out.resize(out.len() + 2 * depth, b' ')?;
     write!(out, "@{} {} {}", e.place, e.kind, e.id)?;
-    if contents(e.kind).is_none() {
-        put_value(out, value(bytes, e))?;
+    if e.kind.contents().is_none() {
+        put_value(out, entries.value(e))?;
     }
     out.extend_from_slice(b"\n")
 }
 
-// Entries of `bytes`, so many levels deep, a line each.
+/// Entries, so many levels deep, a line each. The levels are counted down, because that makes the listing end.
 #[tactic(auto, using(crate::proofs::Lines::listings))]
-pub fn put_entries(
-    out: &mut Vec<u8>,
-    levels: usize,
-    bytes: &[u8],
-    entries: Entries<'_>,
-) -> Result<(), AllocError>
+pub fn put_entries(out: &mut Vec<u8>, levels: usize, entries: Entries<'_>) -> Result<(), AllocError>
     requires { levels ≤ 3 }
-    ensures { Wrote out.old.items result (listing levels bytes.now (entries_left entries.entry)) out.new.items }
+    ensures { Wrote out.old.items result (listing levels (walked entries.entry) (entries_left entries.entry)) out.new.items }
 {
     if levels == 0 {
         return Ok(());
     }
     for e in entries {
-        put_entry(out, 3 - levels, bytes, e)?;
-        if contents(e.kind).is_some() {
-            put_entries(out, levels - 1, bytes, Entries::inside(bytes, e))?;
+        put_entry(out, 3 - levels, entries, e)?;
+        if e.kind.contents().is_some() {
+            put_entries(out, levels - 1, entries.inside(e))?;
         }
     }
     Ok(())

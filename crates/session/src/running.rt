@@ -7,16 +7,16 @@ use crate::answers::{put_bad, put_check, put_header, put_integer};
 use lexer::{BadLine, Fault, LONGEST_LINE, is_text, uncommented};
 use payload_text::payload;
 use scenario::{Step, read_step};
-use std::alloc::{AllocError, Global};
+use std::alloc::AllocError;
 
-// What lasts from line to line.
+/// What lasts from line to line.
 #[derive(Clone, Copy, Debug, Default, PartialEq, Eq)]
 pub struct Session {
-    // Whether each line is printed first.
+    /// Whether each line is printed first.
     pub echo: bool,
-    // The number of the last line that was run.
+    /// The number of the last line that was run.
     pub number: u64,
-    // Whether a line was bad.
+    /// Whether a line was bad.
     pub bad: bool,
 }
 
@@ -27,7 +27,8 @@ fn put_line(out: &mut Vec<u8>, text: &[u8]) -> Result<(), AllocError>
     out.extend_from_slice(b"\n")
 }
 
-// Whether a line is text, and not too long.
+// Whether a line is text, and not too long: told here and by `read_step`, and by no type, because both answer
+// for any bytes.
 fn is_readable(line: &[u8]) -> bool
     ensures { Decides result (Readable line.now) }
 {
@@ -62,10 +63,10 @@ impl Session {
     }
 
     // The verdict on a payload that is written as text.
-    fn check(&mut self, heap: Global, text: &[u8], out: &mut Vec<u8>) -> Result<(), AllocError>
+    fn check(&mut self, text: &[u8], out: &mut Vec<u8>) -> Result<(), AllocError>
         ensures { Performed self.old (check text.now) out.old.items result out.new.items self.new }
     {
-        match payload(heap, text) {
+        match payload(*out.allocator(), text) {
             Ok(bytes) => put_check(out, bytes.as_slice()),
             Err(Fault::Wrong(bad)) => self.refuse(bad, text, out),
             Err(Fault::NoMemory(e)) => Err(e),
@@ -73,7 +74,7 @@ impl Session {
     }
 
     // What a step prints and leaves.
-    fn perform(&mut self, heap: Global, step: Step<'_>, out: &mut Vec<u8>) -> Result<(), AllocError>
+    fn perform(&mut self, step: Step<'_>, out: &mut Vec<u8>) -> Result<(), AllocError>
         ensures { Performed self.old (meaning_of step.entry) out.old.items result out.new.items self.new }
     {
         match step {
@@ -83,21 +84,21 @@ impl Session {
                 Ok(())
             }
             Step::Say(text) => put_line(out, text),
-            Step::Check(text) => self.check(heap, text, out),
+            Step::Check(text) => self.check(text, out),
             Step::Header { tag, len } => put_header(out, tag, len as usize),
             Step::Integer(n) => put_integer(out, n),
         }
     }
 
-    // Runs a line, and appends what it prints to `out`.
+    /// Runs a line, and appends what it prints to `out`.
     #[tactic(auto, using(crate::proofs::Runnings::ran))]
-    pub fn run(&mut self, heap: Global, line: &[u8], out: &mut Vec<u8>) -> Result<(), AllocError>
+    pub fn run(&mut self, line: &[u8], out: &mut Vec<u8>) -> Result<(), AllocError>
         ensures { Ran self.old line.now out.old.items result out.new.items self.new }
     {
         self.number = self.number.saturating_add(1);
         self.put_echo(line, out)?;
         match read_step(line) {
-            Ok(step) => self.perform(heap, step, out),
+            Ok(step) => self.perform(step, out),
             Err(bad) => self.refuse(bad, uncommented(line), out),
         }
     }

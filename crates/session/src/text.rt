@@ -5,7 +5,8 @@ ghost use Rattle.session.specs.Printed.{Wrote};
 use std::alloc::AllocError;
 use std::fmt::Display;
 
-// `write!` to bytes: behind what stands there, and with want of memory as the only error.
+/// `write!` to bytes: behind what stands there, and with want of memory as the only error, which `io::Write`
+/// would turn into one of its own.
 pub trait Append {
     ghost contents: { Self → List ℕ };
 
@@ -22,7 +23,7 @@ impl Append for Vec<u8> {
     }
 }
 
-// Bytes as pairs of hexadecimal digits.
+/// Bytes as pairs of hexadecimal digits.
 pub fn put_hex(out: &mut Vec<u8>, bytes: &[u8]) -> Result<(), AllocError>
     ensures { Wrote out.old.items result (encode_upper bytes.now) out.new.items }
 {

@@ -11,7 +11,8 @@ use Rattle.tlv.specs.declared.grammar.Container.TheVariants.{Payload, Instance, 
 use Rattle.tlv.specs.Entries.{entries}
 use Rattle.tlv.specs.Faults.{fault_at, of_entry, lifted}
 
--- A payload holds any kind, an Object Instance Resources and multiple Resources, a multiple Resource Resource Instances.
+-- A payload holds any kind, an Object Instance Resources and multiple Resources, a multiple Resource
+-- Resource Instances.
 abbrev pub allows : Container → Kind → Bool
 allows Payload k = true
 allows Instance ObjectInstance = false

@@ -1,11 +1,11 @@
 ghost use Rattle.std.specs.Prelude.{◌≡◌, IfSome};
-ghost use Rattle.tlv.specs.Entries.{entry_at, value_of, Located};
+ghost use Rattle.tlv.specs.Entries.{entry_at, Located};
 
 use crate::header::{Kind, Tag, read_header};
 
-// An entry as it lies in a payload: its type byte at `place`, its value from `from` to `to`.
-// Offsets and no slice, because what lies inside is told by its place in the whole payload, which a slice forgets.
-// It has no `Tag` inside, because `e.kind` says plainly what most uses ask; `tag` gives the two together.
+/// An entry as it lies in a payload: its type byte at `place`, its value from `from` to `to`.
+/// Offsets and no slice, because what lies inside is told by its place in the payload, which a slice forgets.
+/// It has no `Tag` inside, because `e.kind` says plainly what most uses ask; `tag` gives the two together.
 #[derive(Clone, Copy, Debug, PartialEq, Eq)]
 pub struct Entry {
     pub kind: Kind,
@@ -26,7 +26,7 @@ impl Entry {
     }
 }
 
-// The entry at `at` of a container that ends at `end`; None where none lies there whole.
+/// The entry at `at` of a container that ends at `end`; None where none lies there whole.
 #[tactic(auto, unfolding(crate::specs::Entries::entry_at))]
 pub fn entry_at(bytes: &[u8], at: usize, end: usize) -> Option<Entry>
     ensures says { result ≡ entry_at bytes.now at end }
@@ -45,12 +45,4 @@ pub fn entry_at(bytes: &[u8], at: usize, end: usize) -> Option<Entry>
         from,
         to,
     })
-}
-
-// The value of an entry of `bytes`: a part of them, as far as there are bytes.
-pub fn value<'a>(bytes: &'a [u8], e: Entry) -> &'a [u8]
-    ensures { result.now ≡ value_of bytes.now e }
-{
-    let end = e.to.min(bytes.len());
-    &bytes[e.from.min(end)..end]
 }

@@ -5,7 +5,7 @@ ghost use Rattle.tlv.specs.Wording.{fault_words};
 use reason::{Code, Reason};
 use std::fmt;
 
-// What the entry reader found: why, and the offset of the entry's type byte.
+/// What the entry reader found: why, and the offset of the entry's type byte.
 #[derive(Clone, Copy, Debug, PartialEq, Eq)]
 pub struct EntryFault {
     pub reason: Reason,
@@ -24,15 +24,15 @@ impl EntryFault {
     }
 }
 
-// What is wrong with a payload.
+/// What is wrong with a payload.
 #[derive(Clone, Copy, Debug, PartialEq, Eq)]
 pub enum PayloadFault {
     TooLong,
     Entry(EntryFault),
 }
 
-// What the caller is told.
-// No `EntryFault`, though its fields are the same, because it may be about no entry, and each step lifts by `From`.
+/// What the caller is told.
+/// No `EntryFault`, though its fields are the same, because it may be about no entry; `From` leads on to it.
 #[derive(Clone, Copy, Debug, PartialEq, Eq)]
 pub struct CallFault {
     pub reason: Reason,
@@ -61,7 +61,7 @@ impl From<PayloadFault> for CallFault {
     }
 }
 
-// A reason that is not about an entry has no place of its own.
+// A reason that is not about an entry has no place of its own, and is told with place 0.
 impl From<Reason> for CallFault {
     ghost from_gives = { λ r c. c ≡ of_reason r };
 

@@ -7,7 +7,7 @@ use crate::header::Kind;
 use crate::limit::narrow;
 use crate::walk::Entries;
 
-// What holds entries: a whole payload, or the value of an entry that is made of entries.
+/// What holds entries: a whole payload, or the value of an entry that is made of entries.
 #[derive(Clone, Copy, Debug, PartialEq, Eq)]
 pub enum Container {
     Payload,
@@ -15,30 +15,35 @@ pub enum Container {
     Multiple,
 }
 
-fn allowed(c: Container, k: Kind) -> bool
-    ensures { result ≡ allows c k }
-{
-    match (c, k) {
-        (Container::Payload, _) => true,
-        (Container::Instance, Kind::Resource | Kind::MultipleResource) => true,
-        (Container::Multiple, Kind::ResourceInstance) => true,
-        _ => false,
+impl Container {
+    fn allows(self, k: Kind) -> bool
+        ensures { result ≡ allows self k }
+    {
+        match (self, k) {
+            (Container::Payload, _) => true,
+            (Container::Instance, Kind::Resource | Kind::MultipleResource) => true,
+            (Container::Multiple, Kind::ResourceInstance) => true,
+            _ => false,
+        }
     }
 }
 
-// The container that the value of an entry is, if it is one.
-pub fn contents(k: Kind) -> Option<Container>
-    ensures { result ≡ within k }
-{
-    match k {
-        Kind::ObjectInstance => Some(Container::Instance),
-        Kind::MultipleResource => Some(Container::Multiple),
-        _ => None,
+impl Kind {
+    /// The container that the value of an entry of this kind is, if it is one.
+    pub fn contents(self) -> Option<Container>
+        ensures { result ≡ within self }
+    {
+        match self {
+            Kind::ObjectInstance => Some(Container::Instance),
+            Kind::MultipleResource => Some(Container::Multiple),
+            _ => None,
+        }
     }
 }
 
 // Checks the entries from `start` to `end`, and by the same rule those inside each of them.
-// Start and end come apart, and not as `Entries`, because the walk ends at the limit, which stands at `end`.
+// Reading ends at `limit`: at `end` in here, and where it ended before once this is done, faults or none.
+// Start and end come apart, and not as `Entries`, because the walk takes its end from the limit.
 #[tactic(auto, using(crate::proofs::Faults::fault_filled))]
 fn check(
     bytes: &[u8],
@@ -51,12 +56,13 @@ fn check(
     ensures restores { limit.new ≡ limit.old }
 {
     let guard = narrow(limit, end);
+    // Where the entries stop is kept beside the walk, because the walk is used up by the loop.
     let mut reached = start;
     for e in Entries::between(bytes, start, *guard.limit) {
-        if !allowed(c, e.kind) {
+        if !c.allows(e.kind) {
             return Err(EntryFault::at(e.place));
         }
-        if let Some(inner) = contents(e.kind) {
+        if let Some(inner) = e.kind.contents() {
             check(bytes, guard.limit, inner, e.from, e.to)?;
         }
         reached = e.to;
@@ -67,7 +73,7 @@ fn check(
     Ok(())
 }
 
-// Whether a payload is well formed, or else its first fault.
+/// Whether a payload is well formed, or else its first fault.
 pub fn check_payload(bytes: &[u8]) -> Result<(), PayloadFault>
     ensures { result ≡ verdict bytes.now }
 {
@@ -79,7 +85,7 @@ pub fn check_payload(bytes: &[u8]) -> Result<(), PayloadFault>
     Ok(())
 }
 
-// What a call with this payload is told, as far as the payload's form goes.
+/// What a call with this payload is told, as far as the payload's form goes.
 pub fn accept_payload(bytes: &[u8]) -> Result<(), CallFault>
     ensures { result ≡ lifted of_payload (verdict bytes.now) }
 {

@@ -1,11 +1,11 @@
-ghost use Rattle.std.specs.Prelude.{◌≡◌, ◌+◌, ◌*◌, ◌≤◌, IfOk, Some};
+ghost use Rattle.std.specs.Prelude.{◌≡◌, ◌≤◌, IfOk, Some};
 ghost use Rattle.tlv.specs.Header.{kind_of, header_answer, read_length, read_header};
 ghost use Rattle.tlv.specs.Wording.{kind_text};
 
 use reason::Reason;
 use std::fmt;
 
-// What an entry stands for, with its number in bits 7 and 6 of the type byte.
+/// What an entry stands for, with its number in bits 7 and 6 of the type byte.
 #[derive(Clone, Copy, Debug, PartialEq, Eq)]
 pub enum Kind {
     ObjectInstance = 0,
@@ -27,14 +27,14 @@ impl fmt::Display for Kind {
     }
 }
 
-// What names an entry in its container: the T and the I of its header.
+/// What names an entry in its container: the T and the I of its header.
 #[derive(Clone, Copy, Debug, PartialEq, Eq)]
 pub struct Tag {
     pub kind: Kind,
     pub id: u16,
 }
 
-// A header as it was read: `size` bytes, behind which `len` bytes of value are due.
+/// A header as it was read: `size` bytes, behind which `len` bytes of value are due.
 #[derive(Clone, Copy, Debug, PartialEq, Eq)]
 pub struct Header {
     pub kind: Kind,
@@ -55,7 +55,8 @@ fn kind_of(t: u8) -> Kind
     }
 }
 
-// The type byte and the length of the shortest header; a length that three bytes do not hold is refused.
+/// The type byte and the length of the shortest header; a length that three bytes do not hold is refused.
+/// A pair and no type of its own, because both are worked out together and taken apart where they arrive.
 pub fn short_header(tag: Tag, len: usize) -> Result<(u8, usize), Reason>
     ensures says { result ≡ header_answer tag.kind tag.id len }
     ensures small { IfOk result (λ h. h.1 ≤ 6) }
@@ -95,15 +96,14 @@ fn read_length(t: u8, id: u16, used: usize, rest: &[u8]) -> Option<Header>
     })
 }
 
-// The header that `s` begins with, in any form; None where `s` ends within it.
+/// The header that `s` begins with, in any form; None where `s` ends within it.
+/// Patterns on the bytes, because the first byte is the type and the next one or two are the identifier.
 pub fn read_header(s: &[u8]) -> Option<Header>
     ensures { result ≡ read_header s.now }
 {
     match *s {
         [t, id, ref rest @ ..] if t / 32 % 2 == 0 => read_length(t, u16::from(id), 2, rest),
-        [t, hi, lo, ref rest @ ..] if t / 32 % 2 == 1 => {
-            read_length(t, u16::from_be_bytes([hi, lo]), 3, rest)
-        }
+        [t, hi, lo, ref rest @ ..] => read_length(t, u16::from_be_bytes([hi, lo]), 3, rest),
         _ => None,
     }
 }

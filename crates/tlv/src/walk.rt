@@ -1,12 +1,12 @@
 ghost use Rattle.std.specs.Prelude.{◌≡◌, length};
-ghost use Rattle.std.specs.Iterator.{YieldsFirst, item_count};
-ghost use Rattle.tlv.specs.Entries.{entries};
-ghost use Rattle.tlv.specs.Walk.{entries_left};
+ghost use Rattle.std.specs.Iterator.{item_count};
+ghost use Rattle.tlv.specs.Entries.{entries, value_of};
+ghost use Rattle.tlv.specs.Walk.{Steps, entries_left, walked};
 
 use crate::entries::{Entry, entry_at};
 
-// The entries of a container of `bytes`, one behind the other.
-#[derive(Clone, Copy)]
+/// The entries of a container, one behind the other, and the bytes in which they lie.
+#[derive(Clone, Copy, Debug, PartialEq, Eq)]
 pub struct Entries<'a> {
     bytes: &'a [u8],
     at: usize,
@@ -16,30 +16,41 @@ pub struct Entries<'a> {
 impl<'a> Entries<'a> {
     // The entries that lie from `at` to `end`.
     pub(crate) fn between(bytes: &'a [u8], at: usize, end: usize) -> Entries<'a>
-        ensures { entries_left result ≡ entries bytes.now at end }
+        ensures left { entries_left result ≡ entries bytes.now at end }
+        ensures same { walked result ≡ bytes.now }
     {
         Entries { bytes, at, end }
     }
 
-    // The entries of a whole payload.
+    /// The entries of a whole payload.
     pub fn of_payload(bytes: &'a [u8]) -> Entries<'a>
-        ensures { entries_left result ≡ entries bytes.now 0 (length bytes.now) }
+        ensures left { entries_left result ≡ entries bytes.now 0 (length bytes.now) }
+        ensures same { walked result ≡ bytes.now }
     {
         Entries::between(bytes, 0, bytes.len())
     }
 
-    // The entries that lie in the value of an entry of the same bytes.
-    pub fn inside(bytes: &'a [u8], e: Entry) -> Entries<'a>
-        ensures { entries_left result ≡ entries bytes.now e.from e.to }
+    /// The entries that lie in the value of an entry of the same bytes.
+    pub fn inside(&self, e: Entry) -> Entries<'a>
+        ensures left { entries_left result ≡ entries (walked self.now) e.from e.to }
+        ensures same { walked result ≡ walked self.now }
     {
-        Entries::between(bytes, e.from, e.to)
+        Entries::between(self.bytes, e.from, e.to)
+    }
+
+    /// The value of an entry of the same bytes: a part of them, as far as there are bytes.
+    pub fn value(&self, e: Entry) -> &'a [u8]
+        ensures { result.now ≡ value_of (walked self.now) e }
+    {
+        let end = e.to.min(self.bytes.len());
+        &self.bytes[e.from.min(end)..end]
     }
 }
 
-impl<'a> Iterator for Entries<'a> {
+impl Iterator for Entries<'_> {
     type Item = Entry;
 
-    ghost next_gives = { YieldsFirst entries_left };
+    ghost next_gives = { Steps };
 
     ghost remaining = { item_count entries_left };
 

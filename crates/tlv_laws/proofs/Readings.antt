@@ -1,4 +1,4 @@
--- Bytes that fill a container, with the entries that they say: what the check accepts, and what it accepts alone.
+-- Bytes that fill a container, with the entries that they say: what the check accepts, and that alone.
 use Rattle.std.proofs.Common.{◌≡◌, ℕ, zero, suc, ◌+◌, ◌-◌, ◌<◌, ◌≤◌, Bool, true, false, cond, List, [], ◌++◌, length, Some, None, Ok, Option, sym, refl, ap, ◌∙◌, subst, arith}
 use Rattle.std.proofs.lemmas.Bool.Decides.{nat_tests}
 use Rattle.std.proofs.lemmas.List.Edits.{between_none}

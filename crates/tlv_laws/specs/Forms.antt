@@ -28,7 +28,7 @@ pub record WrittenSame (bs : List ℕ) : Type 0 where
 abbrev pub RewritesSame : Type 0
 RewritesSame = (bs : List ℕ) → Bytes bs → verdict bs ≡ Ok tt → WrittenSame bs
 
--- the length of a payload's form, of which rewriting the payload tells only where it is another than the payload
+-- the length of a payload's form, of which rewriting the payload tells only where it is another than that
 abbrev pub length_of : List ℕ → Result (Option ℕ) CallFault → Result ℕ CallFault
 length_of bs (Ok None) = Ok (length bs)
 length_of bs (Ok (Some n)) = Ok n

@@ -1,4 +1,4 @@
-// The laws of the entry layer, on the calls that a program makes.
+//! The laws of the entry layer, on the calls that a program makes.
 #![tactic(auto)]
 
 mod payload;

@@ -1,5 +1,5 @@
--- A shortest form is at most three times as long as what it was read from: an entry takes two bytes or more, and
--- its shortest header six or less.
+-- A shortest form is at most three times as long as what it was read from: an entry takes two bytes or more,
+-- and its shortest header six or less.
 use Rattle.std.proofs.Common.{◌≡◌, ℕ, zero, suc, ◌-◌, ◌*◌, ◌<◌, ◌≤◌, List, ◌++◌, length, Some, None, Option, sym, refl, arith, length-append}
 use Rattle.std.proofs.lemmas.Bool.Decides.{nat_tests}
 use Rattle.std.proofs.lemmas.List.Edits.{length-between}

@@ -1,6 +1,6 @@
 -- The items of a container, one by one.
 use Rattle.std.specs.Prelude.{ℕ, List, Some, None, Option}
-use Rattle.tlv.specs.Walk.{entries_left}
+use Rattle.tlv.specs.Walk.{entries_left, walked}
 use Rattle.tlv_shortest.specs.declared.level.Level.{Level}
 use Rattle.tlv_shortest.specs.declared.level.Item.{Item}
 use Rattle.tlv_shortest.specs.declared.level.Item.TheVariants.{Plain, Holder}
@@ -8,7 +8,7 @@ use Rattle.tlv_shortest.specs.Items.{Items, none, plain, holder, items_from, enc
 
 -- the items that are still to come
 abbrev pub items_left : Level → Items
-items_left l = items_from l.depth l.payload.now (entries_left l.entries)
+items_left l = items_from l.depth (walked l.entries) (entries_left l.entries)
 
 -- their bytes in shortest form
 abbrev pub form_of : Level → List ℕ

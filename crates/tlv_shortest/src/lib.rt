@@ -1,4 +1,4 @@
-// The shortest form of a payload: the same entries, each header as short as it can be.
+//! The shortest form of a payload: the same entries, each header as short as it can be.
 #![tactic(auto)]
 
 mod form;

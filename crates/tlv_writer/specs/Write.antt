@@ -28,7 +28,7 @@ append_leaves (Err e) old at bs = old
 abbrev pub padded : ℕ → List ℕ → List ℕ
 padded room bs = bs ++ replicate (room - length bs) 0
 
--- a whole write fills the buffer: with the bytes and zeros behind them, or with zeros alone where it is refused
+-- a whole write fills the buffer: with the bytes and zeros behind them, or with zeros alone where refused
 abbrev pub write_leaves : Result ℕ Reason → ℕ → List ℕ → List ℕ
 write_leaves (Ok end) room bs = padded room bs
 write_leaves (Err e) room bs = replicate room 0

@@ -2,7 +2,7 @@ ghost use Rattle.std.specs.Prelude.{◌≡◌, ◌+◌, ◌≤◌, length};
 ghost use Rattle.std.specs.Int.{bytes_high_first};
 ghost use Rattle.tlv_writer.specs.Write.{written};
 
-// Copies `bytes` to `at`, and answers where they end.
+/// Copies `bytes` to `at`, and answers where they end.
 pub fn put(out: &mut [u8], at: usize, bytes: &[u8]) -> usize
     requires { at + length bytes.now ≤ length out.old }
     ensures ends { result ≡ at + length bytes.now }
@@ -13,7 +13,7 @@ pub fn put(out: &mut [u8], at: usize, bytes: &[u8]) -> usize
     end
 }
 
-// The lowest `size` bytes of a number, high byte first; answers where they end.
+/// The lowest `size` bytes of a number, high byte first; answers where they end.
 #[tactic(auto, using(crate::proofs::Writes::low_bytes))]
 pub fn put_number(out: &mut [u8], at: usize, number: usize, size: usize) -> usize
     requires held { size ≤ 8 }

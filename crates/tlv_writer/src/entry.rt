@@ -6,11 +6,11 @@ use crate::bytes::{put, put_number};
 use reason::Reason;
 use tlv::{Tag, short_header};
 
-// The caller lends the buffer and keeps the offset, because a device's memory is fixed, and an offset past the
+// The caller lends the buffer and keeps the offset, because a device's memory is fixed; an offset past the
 // end is refused like a full buffer.
 
-// The header of a value of `len` bytes, in shortest form, at `at`; answers where it ends.
-// A refusal leaves the buffer as it was.
+/// The header of a value of `len` bytes, in shortest form, at `at`; answers where it ends.
+/// A refusal leaves the buffer as it was.
 pub fn append_header(out: &mut [u8], at: usize, tag: Tag, len: usize) -> Result<usize, Reason>
     ensures answers { result ≡ append_answer (length out.old) at len (short_header tag.kind tag.id len) }
     ensures writes { out.new ≡ append_leaves result out.old at (short_header tag.kind tag.id len) }
@@ -25,8 +25,8 @@ pub fn append_header(out: &mut [u8], at: usize, tag: Tag, len: usize) -> Result<
     Ok(put_number(out, len_at, len, size - 1 - id_size))
 }
 
-// One entry in shortest form at `at`, for replies of many entries; answers where it ends.
-// A refusal leaves the buffer as it was.
+/// One entry in shortest form at `at`, for replies of many entries; answers where it ends.
+/// A refusal leaves the buffer as it was.
 pub fn append_entry(out: &mut [u8], at: usize, tag: Tag, value: &[u8]) -> Result<usize, Reason>
     ensures answers { result ≡ append_answer (length out.old) at (length value.now) (encoded tag.kind tag.id value.now) }
     ensures writes { out.new ≡ append_leaves result out.old at (encoded tag.kind tag.id value.now) }
@@ -39,8 +39,8 @@ pub fn append_entry(out: &mut [u8], at: usize, tag: Tag, value: &[u8]) -> Result
     Ok(put(out, value_at, value))
 }
 
-// One entry in shortest form at the front of the buffer, and zeros behind it; answers its length.
-// A refusal leaves zeros alone.
+/// One entry in shortest form at the front of the buffer, and zeros behind it; answers its length.
+/// A refusal leaves zeros alone.
 #[tactic(auto, using(crate::proofs::Writes::leaves_padded))]
 pub fn write_entry(out: &mut [u8], tag: Tag, value: &[u8]) -> Result<usize, Reason>
     ensures answers { result ≡ append_answer (length out.old) 0 (length value.now) (encoded tag.kind tag.id value.now) }

@@ -1,4 +1,4 @@
-// Writing entries in their shortest form into a lent buffer.
+//! Writing entries in their shortest form into a lent buffer.
 #![tactic(auto)]
 
 mod bytes;

@@ -1,8 +1,7 @@
-use Rattle.std.proofs.Common.{◌≡◌, ℕ, ◌/◌, eqb, length, get_or, take, rules}
+use Rattle.std.proofs.Common.{◌≡◌, ℕ, ◌/◌, eqb, length, get_or, take, rules, tests}
 use Rattle.std.specs.List.{list_all}
 use Rattle.std.proofs.lemmas.Iterator.{YieldsList-from_slice}
 use Rattle.std.proofs.lemmas.Iterator.Search.{all_from_yields_List}
-use borrow.Author.Tests.{tests}
 use Rattle.integer.specs.Integer.{fill_of, spare_half}
 use Rattle.integer.proofs.halving.spare_half.Goals as goal
 

@@ -4,6 +4,7 @@ use Rattle.payload_text.specs.Notation.{goes_on}
 use Rattle.payload_text.proofs.Ahead.{ahead_more}
 use Rattle.payload_text.proofs.items.items.Goals as goal
 
+-- one item on; by hand, because the turns that are left are a value, and no equation tells a search which
 pub loop-heap-preserved : goal.loop-heap-preserved
 loop-heap-preserved g c =
     let on : goes_on c.loop-heap.rest.now ≡ true = grind (arith, common_steps) in
