@@ -39,8 +39,8 @@ abbrev pub placed : {M : Type 0} → List ℕ → Result M Misread → Result M 
 placed whole (Ok m) = Ok m
 placed whole (Err e) = Err (blamed whole e)
 
--- A reader that allocates gives the bytes of the meaning `m`, or its fault; want of memory says nothing of the
--- text.
+-- A reader that allocates gives the bytes of the meaning `m`, or its fault; want of memory says nothing of
+-- the text.
 abbrev pub Gives : {E : Type 0} → Result (Vec ℕ Global) (Fault E) → Result (List ℕ) E → Type 0
 Gives (Ok v) m = m ≡ Ok (vec_items v)
 Gives (Err (Wrong e)) m = m ≡ Err e

@@ -17,7 +17,7 @@ comment_at quoted (c ∷ cs) = cond (c == 35 && not quoted) 0 (suc (comment_at (
 abbrev pub trimmed_of : List ℕ → List ℕ
 trimmed_of t = take (length t - suffix_len is_blank t) t
 
--- the line without its comment
+-- the line without its comment and the blanks at its end
 abbrev pub body_of : List ℕ → List ℕ
 body_of line = trimmed_of (take (comment_at false line) line)
 
@@ -25,8 +25,8 @@ body_of line = trimmed_of (take (comment_at false line) line)
 abbrev pub plain : ℕ → Bool
 plain c = not (is_control c) || (c == 9 || c == 13)
 
--- The same told by bytes: whether `c`, behind `previous`, is no part of a control character: those are 0 to 31,
--- tab and carriage return apart, 127, and 128 to 159, which UTF-8 writes as 194 and the number.
+-- The same told by bytes: whether `c`, behind `previous`, is no part of a control character: those are 0 to
+-- 31, tab and carriage return apart, 127, and 128 to 159, which UTF-8 writes as 194 and the number.
 abbrev pub plain_after : ℕ → ℕ → Bool
 plain_after previous c =
     cond (nat_lt c 32) (c == 9 || c == 13) (not (c == 127) && not (previous == 194 && (nat_le 128 c && nat_le c 159)))

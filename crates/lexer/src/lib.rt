@@ -1,6 +1,6 @@
 //! Characters, words, numbers and lines of a text, and what should have stood where reading stopped.
-//! A text is bytes and no &str, because what comes in may be any bytes: whether they are text is a test of its
-//! own, whose answer people are told.
+//! A text is bytes and no &str, because what comes in may be any bytes: whether they are text is a test of
+//! its own, whose answer people are told.
 #![tactic(auto)]
 
 // Classes of characters, by which a text is split.

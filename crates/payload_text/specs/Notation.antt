@@ -1,5 +1,5 @@
--- THE PAYLOAD NOTATION. A reader takes a text, and gives bytes and the text that is left behind them, or tells
--- what it expected and where.
+-- THE PAYLOAD NOTATION. A reader takes a text, and gives bytes and the text that is left behind them, or
+-- tells what it expected and where.
 use Rattle.std.specs.Prelude.{◌≡◌, ◌<◌, ℕ, zero, suc, Bool, false, cond, not, List, [], ◌∷◌, ◌++◌, length, Some, None, Ok, Err, vec_items, codes, Option, Result, ◌==◌, nat_lt}
 use Rattle.std.specs.Option.{ok_or, option_map}
 use Rattle.std.specs.Result.{result_map_both}
@@ -67,7 +67,8 @@ plain_or_quoted t (Some inside) = quoted_of inside
 abbrev pub value_of : List ℕ → Part
 value_of t = plain_or_quoted t (behind 34 t)
 
--- ENTRIES, each in its shortest form. One with a value over 16,777,215 bytes has no form; it is told at the text `t`.
+-- ENTRIES, each in its shortest form. One with a value over 16,777,215 bytes has no form; it is told at the
+-- text `t`.
 unfoldable pub entry_of : Kind → ℕ → List ℕ → List ℕ → Result (List ℕ) Misread
 entry_of k id t v = cond (nat_lt (length v) 16777216) (Ok (encoded k id v)) (Err (stopped expected.ShorterValue t))
 
@@ -157,8 +158,8 @@ bytes_of t = cond (same t (codes "-")) (Ok []) (cond (has_mark t) (entries_of t)
 abbrev pub payload_of : List ℕ → Result (List ℕ) BadLine
 payload_of t = placed t (bytes_of t)
 
--- a reader in code gives such a part, with fewer than `n` bytes of text left (so no instance of `Gives`, which tells of
--- bytes alone); or its fault, or want of memory, which says nothing of the text
+-- a reader in code gives such a part, with fewer than `n` bytes of text left (so no instance of `Gives`,
+-- which tells of bytes alone); or its fault, or want of memory, which says nothing of the text
 abbrev pub GivesPart : Result Piece (Fault Misread) → Part → ℕ → Type 0
 GivesPart (Ok p) m n = (m ≡ Ok (vec_items p.bytes, p.rest.now)) × (length p.rest.now < n)
 GivesPart (Err (Wrong e)) m n = m ≡ Err e

@@ -12,7 +12,8 @@ pub trait Item {
     // What a text is read as.
     ghost meaning: { Reader };
 
-    // heap and text are no struct: whatever allocates takes heap first, and text is another at each step.
+    // heap and text do not make one struct, because whatever allocates takes heap first, and text is another
+    // at each step.
     fn read(heap: Global, text: &[u8]) -> Result<Piece<'_>, Fault<Misread>>
         ensures { GivesPart result (meaning text.now) (length text.now) };
 }

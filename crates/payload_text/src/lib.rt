@@ -1,4 +1,5 @@
 //! Payloads written as text: entries, values and pairs of hexadecimal digits.
+//! Texts are bytes and no &str, because what comes in may be any bytes.
 #![tactic(auto)]
 
 // Bytes that were read, with the text left behind them.

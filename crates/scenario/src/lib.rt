@@ -1,4 +1,5 @@
 //! What the lines of a scenario ask for.
+//! Texts are bytes and no &str, because what comes in may be any bytes.
 #![tactic(auto)]
 
 mod step;

@@ -1,4 +1,5 @@
 //! Running the lines of a scenario: what each one prints.
+//! Texts are bytes and no &str, because what comes in may be any bytes.
 #![tactic(auto)]
 
 mod answers;

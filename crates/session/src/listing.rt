@@ -66,7 +66,7 @@ fn put_entry(
     out.extend_from_slice(b"\n")
 }
 
-/// Entries, so many levels deep, a line each. The levels are counted down, because that makes the listing end.
+/// Entries, so many levels deep, a line each. The levels are counted down, so that the listing ends.
 #[tactic(auto, using(crate::proofs::Lines::listings))]
 pub fn put_entries(out: &mut Vec<u8>, levels: usize, entries: Entries<'_>) -> Result<(), AllocError>
     requires { levels ≤ 3 }

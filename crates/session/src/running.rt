@@ -54,7 +54,7 @@ impl Session {
         put_line(out, body)
     }
 
-    // What a text that could not be read, of this line, prints and leaves.
+    // What a text of this line that could not be read prints and leaves.
     fn refuse(&mut self, bad: BadLine, text: &[u8], out: &mut Vec<u8>) -> Result<(), AllocError>
         ensures { Refused self.old bad text.now out.old.items result out.new.items self.new }
     {

@@ -56,7 +56,7 @@ fn check(
     ensures restores { limit.new ≡ limit.old }
 {
     let guard = narrow(limit, end);
-    // Where the entries stop is kept beside the walk, because the walk is used up by the loop.
+    // Where the entries stop is kept beside the walk, because with `by_ref` on the walk no proof was found.
     let mut reached = start;
     for e in Entries::between(bytes, start, *guard.limit) {
         if !c.allows(e.kind) {

@@ -35,6 +35,7 @@ pub struct Tag {
 }
 
 /// A header as it was read: `size` bytes, behind which `len` bytes of value are due.
+/// It has no `Tag` inside, because `h.kind` and `h.id` say plainly what is read one after the other.
 #[derive(Clone, Copy, Debug, PartialEq, Eq)]
 pub struct Header {
     pub kind: Kind,

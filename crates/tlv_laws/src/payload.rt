@@ -18,9 +18,9 @@ pub fn well_formed(payload: &[u8]) -> Result<(), CallFault>
     accept_payload(payload)
 }
 
-/// A payload's shortest form in the buffer, and zeros behind it; answers its length, or None where the payload
-/// has that form already. It reads back as the same entries, and is the payload byte for byte where every
-/// header of that is as short as it can be.
+/// A payload's shortest form in the buffer, and zeros behind it; answers its length, or None where the
+/// payload has that form already. It reads back as the same entries, and is the payload byte for byte where
+/// every header of that is as short as it can be.
 #[tactic(auto, using(crate::proofs::Answered::rewriting))]
 pub fn rewrite(payload: &[u8], out: &mut [u8]) -> Result<Option<usize>, CallFault>
     ensures answers { length_of payload.now result ≡ shortest_answer (length out.old) payload.now }

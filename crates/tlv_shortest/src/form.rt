@@ -5,8 +5,8 @@ use crate::level::Level;
 use reason::Reason;
 use tlv::{CallFault, check_payload};
 
-/// The shortest form of a well-formed payload at the front of the buffer, zeros behind it; answers its length.
-/// A refusal leaves zeros alone.
+/// The shortest form of a well-formed payload at the front of the buffer, zeros behind it; answers its
+/// length. A refusal leaves zeros alone. The buffer is lent, because a device's memory is fixed.
 #[tactic(auto, using(crate::proofs::Turns::filled))]
 pub fn shortest_form(payload: &[u8], out: &mut [u8]) -> Result<usize, CallFault>
     ensures answers { result ≡ shortest_answer (length out.old) payload.now }

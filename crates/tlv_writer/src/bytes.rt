@@ -2,6 +2,8 @@ ghost use Rattle.std.specs.Prelude.{◌≡◌, ◌+◌, ◌≤◌, length};
 ghost use Rattle.std.specs.Int.{bytes_high_first};
 ghost use Rattle.tlv_writer.specs.Write.{written};
 
+// Each is lent the buffer and told the offset, because a device's memory is fixed.
+
 /// Copies `bytes` to `at`, and answers where they end.
 pub fn put(out: &mut [u8], at: usize, bytes: &[u8]) -> usize
     requires { at + length bytes.now ≤ length out.old }

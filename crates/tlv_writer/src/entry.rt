@@ -6,8 +6,8 @@ use crate::bytes::{put, put_number};
 use reason::Reason;
 use tlv::{Tag, short_header};
 
-// The caller lends the buffer and keeps the offset, because a device's memory is fixed; an offset past the
-// end is refused like a full buffer.
+// The caller lends the buffer and keeps the offset, because a device's memory is fixed; and no cursor knows
+// itself inside, because an offset past the end is refused like a full buffer.
 
 /// The header of a value of `len` bytes, in shortest form, at `at`; answers where it ends.
 /// A refusal leaves the buffer as it was.
