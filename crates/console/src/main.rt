@@ -6,7 +6,7 @@ ghost use Rattle.std.specs.Prelude.{◌≡◌, [], OnOk};
 use session::{Session, take_in};
 use std::env;
 use std::fs::File;
-use std::io::{BufReader, Read};
+use std::io::{BufRead, BufReader, Read};
 use std::process::ExitCode;
 
 // Prints what a line prints, before the next one is read, and makes room for that one.
@@ -20,15 +20,35 @@ fn run_line(rt: &HostRuntime, session: &mut Session, line: &mut Vec<u8>) -> anyh
     Ok(())
 }
 
-// Runs an input to its end, and tells whether a line was bad. It reads bytes, since the reader's `lines`
-// would hold a line of any length whole.
+// Takes in a piece of an input, and runs each line that it ends.
+fn run_piece(
+    rt: &HostRuntime,
+    session: &mut Session,
+    line: &mut Vec<u8>,
+    piece: &[u8],
+) -> anyhow::Result<()> {
+    for b in piece {
+        if take_in(line, *b)? {
+            run_line(rt, session, line)?;
+        }
+    }
+    Ok(())
+}
+
+// Runs an input to its end, and tells whether a line was bad. It goes piece by piece through what the reader
+// holds, since its `lines` would hold a line of any length whole, and its `bytes` ask it anew for each byte.
 fn run_input<R: Read + Drop>(rt: &HostRuntime, input: R) -> anyhow::Result<bool> {
     let mut session = Session::new();
     let mut line = Vec::new(rt.alloc());
-    for b in BufReader::new(rt.alloc(), input)?.bytes() {
-        if take_in(&mut line, b?)? {
-            run_line(rt, &mut session, &mut line)?;
+    let mut input = BufReader::new(rt.alloc(), input)?;
+    for _ in 0..u64::MAX {
+        let piece = input.fill_buf()?;
+        if piece.is_empty() {
+            break;
         }
+        run_piece(rt, &mut session, &mut line, piece)?;
+        let len = piece.len();
+        input.consume(len);
     }
     if !line.is_empty() {
         run_line(rt, &mut session, &mut line)?;

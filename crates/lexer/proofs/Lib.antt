@@ -1,3 +1,4 @@
 pub mod Reading
+pub mod Bodies
 pub mod Pairs
 pub mod Characters

@@ -1,5 +1,5 @@
 -- Numbers as they are written.
-use Rattle.std.specs.Prelude.{◌≡◌, ℕ, ◌+◌, ◌-◌, ◌*◌, Bool, true, false, cond, not, List, [], ◌∷◌, ℤ, pos, neg_ℤ, Some, None, Ok, Err, Option, Result, ◌==◌, nat_le, IsUtf8}
+use Rattle.std.specs.Prelude.{◌≡◌, ℕ, ◌+◌, ◌-◌, ◌*◌, Bool, true, false, cond, not, List, [], ◌∷◌, ℤ, pos, neg_ℤ, Some, None, Ok, Err, Option, Result, ◌==◌, nat_le}
 use Rattle.std.specs.Option.{option_map}
 use Rattle.lexer.specs.Chars.{is_digit, behind}
 
@@ -35,8 +35,3 @@ abbrev pub Narrowed : {N E : Type 0} → (ℕ → Result N E → Type 0) → Opt
 Narrowed gives None r = r ≡ None
 Narrowed gives (Some n) (Some x) = gives n (Ok x)
 Narrowed {E = E} gives (Some n) None = (e : E) × gives n (Err e)
-
--- what a type reads of bytes: nothing where they are no text, or where it refuses that
-abbrev pub Parsed : {N E : Type 0} → (List ℕ → Result N E → Type 0) → List ℕ → Option N → Type 0
-Parsed gives t (Some n) = gives t (Ok n)
-Parsed {E = E} gives t None = IsUtf8 t → (e : E) × gives t (Err e)

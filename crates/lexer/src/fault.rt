@@ -31,12 +31,12 @@ pub enum Expected {
     ShorterValue,
 }
 
-// In words for people.
-impl fmt::Display for Expected {
-    ghost output = { λ e. Some (words_of e) };
-
-    fn fmt<W: fmt::Write>(&self, f: &mut fmt::Formatter<W>) -> fmt::Result {
-        f.write_str(match self {
+impl Expected {
+    /// In words for people.
+    pub fn words(self) -> &'static str
+        ensures { result.now ≡ words_of self }
+    {
+        match self {
             Expected::Text => "text expected, UTF-8 without control characters",
             Expected::ShorterLine => "shorter line expected, up to 16384 bytes",
             Expected::Step => "unknown step",
@@ -56,7 +56,15 @@ impl fmt::Display for Expected {
             Expected::Blank => "blank expected",
             Expected::End => "end of the line expected",
             Expected::ShorterValue => "shorter value expected, up to 16777215 bytes",
-        })
+        }
+    }
+}
+
+impl fmt::Display for Expected {
+    ghost output = { λ e. Some (words_of e) };
+
+    fn fmt<W: fmt::Write>(&self, f: &mut fmt::Formatter<W>) -> fmt::Result {
+        f.write_str(self.words())
     }
 }
 

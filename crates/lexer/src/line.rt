@@ -1,6 +1,6 @@
-ghost use Rattle.std.specs.Prelude.{◌≡◌, false, take, chars, Decides};
+ghost use Rattle.std.specs.Prelude.{◌≡◌, true, false, take, chars, Decides};
 ghost use Rattle.std.specs.List.{list_all};
-ghost use Rattle.lexer.specs.Lines.{comment_at, trimmed_of, body_of, plain, Text};
+ghost use Rattle.lexer.specs.Lines.{comment_at, trimmed_of, body_of, plain, plain_after, plain_from, Text};
 
 use crate::chars::Class;
 
@@ -41,18 +41,37 @@ pub fn uncommented(line: &[u8]) -> &[u8]
     trimmed(without_comment(line))
 }
 
-// Whether a text has no control character, tab and carriage return apart.
-fn is_plain(text: &str) -> bool
-    ensures { result ≡ list_all plain (chars text.now) }
+// Whether `c`, behind `previous`, is no part of a control character, tab and carriage return apart.
+fn plain_after(previous: u8, c: u8) -> bool
+    ensures { result ≡ plain_after previous c }
 {
-    text.chars()
-        .all(|c| !c.is_control() || c == '\t' || c == '\r')
+    match c {
+        b' '..=b'~' => true,
+        128.. => previous != 194 || c > 159,
+        _ => c == b'\t' || c == b'\r',
+    }
+}
+
+// Whether none of the bytes belongs to a control character, tab and carriage return apart. A loop over bytes and
+// no `all` over characters, because it ends at the first that does, before the rest is known to be UTF-8.
+fn is_plain(line: &[u8]) -> bool
+    ensures { result ≡ plain_from 0 line.now }
+{
+    let mut previous = 0;
+    for c in line {
+        if !plain_after(previous, *c) {
+            return false;
+        }
+        previous = *c;
+    }
+    true
 }
 
 /// Whether the bytes are text: UTF-8, with no control character but tab and carriage return.
-#[tactic(auto, using(crate::proofs::Characters::text_told, crate::proofs::Characters::not_told))]
+#[tactic(auto, using(crate::proofs::Characters::plain_characters))]
 pub fn is_text(line: &[u8]) -> bool
-    ensures { Decides result (Text line.now) }
+    ensures says { Decides result (Text line.now) }
+    ensures plain { result ≡ true → list_all plain (chars line.now) ≡ true }
 {
-    std::str::from_utf8(line).is_ok_and(is_plain)
+    is_plain(line) && std::str::from_utf8(line).is_ok()
 }

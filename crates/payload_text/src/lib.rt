@@ -23,6 +23,7 @@ mod tests {
     use lexer::Fault;
     use std::alloc::Global;
     use std::process::Abort;
+    use tlv::Entries;
 
     // A function without a contract takes any bytes: it is proved once, and a case needs no proof of its own.
     fn gives(rt: &impl Abort, heap: Global, text: &[u8], bytes: &[u8]) {
@@ -50,6 +51,21 @@ mod tests {
             b"@0{1:2 3[]} 4:5",
             b"\x05\x00\xC1\x01\x02\x80\x03\xC1\x04\x05",
         );
+    }
+
+    // As many entries as there are in the payload itself, those inside them apart.
+    fn counts(rt: &impl Abort, heap: Global, text: &[u8], n: usize) {
+        assert!(rt;
+            payload(heap, text).is_ok_and(|v| Entries::of_payload(v.as_slice()).count() == n)
+        );
+    }
+
+    #[test]
+    fn numbers_of_entries(rt: HostRuntime) {
+        let heap = rt.alloc();
+        counts(&rt, heap, b"", 0);
+        counts(&rt, heap, b"5:127 300:x0aFF", 2);
+        counts(&rt, heap, b"@0{1:2 3[]} 4:5", 2);
     }
 
     fn refuses(rt: &impl Abort, heap: Global, text: &[u8], from: usize) {

@@ -43,14 +43,23 @@ impl From<Reason> for Code {
     }
 }
 
-// The code as people write it: class, a point, and two digits of detail.
+impl Code {
+    /// The code as people write it: class, a point, and two digits of detail. It stands in the program, so
+    /// that a device needs neither room nor a writer for it.
+    pub fn text(self) -> &'static str
+        ensures { result.now ≡ code_text self }
+    {
+        match self {
+            Code::BadRequest => "4.00",
+            Code::InternalServerError => "5.00",
+        }
+    }
+}
+
 impl fmt::Display for Code {
     ghost output = { λ c. Some (code_text c) };
 
     fn fmt<W: fmt::Write>(&self, f: &mut fmt::Formatter<W>) -> fmt::Result {
-        f.write_str(match self {
-            Code::BadRequest => "4.00",
-            Code::InternalServerError => "5.00",
-        })
+        f.write_str(self.text())
     }
 }

@@ -12,7 +12,7 @@ use Rattle.tlv_writer.specs.Write.{padded}
 use Rattle.tlv_laws.proofs.Answered.{form_in_front}
 use Rattle.tlv_laws.proofs.Back.{reads_back}
 use Rattle.tlv_laws.proofs.Filled.{accepts_grammar}
-use Rattle.hex.specs.Hex.{encode_upper}
+use Rattle.session.specs.Printed.{hex_text}
 use Rattle.session.specs.Answers.{form_text}
 
 -- a well-formed payload has a form of at most 4,096 bytes
@@ -25,7 +25,7 @@ never_refused bs e b v a =
 
 -- the form that was written, where the payload has another
 pub other_form : (n : ℕ) (bs out : List ℕ) → Ok n ≡ shortest_answer 4096 bs → out ≡ padded 4096 (shortest_form bs)
-    → WrittenSame bs → (IsNone (Some n) ↔ Shortest bs) → encode_upper (take n out) ≡ form_text bs
+    → WrittenSame bs → (IsNone (Some n) ↔ Shortest bs) → hex_text (take n out) ≡ form_text bs
 other_form n bs out e w same told =
     let p = form_in_front 4096 n bs e out w in
     let same_bytes = bytes_eq (shortest_form bs) bs in

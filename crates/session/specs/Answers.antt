@@ -1,7 +1,6 @@
 -- What each step answers.
 use Rattle.std.specs.Prelude.{ℕ, cond, List, [], ◌∷◌, ◌++◌, length, ℤ, Ok, Err, codes, decimal, Result, nat_lt}
 use Rattle.std.specs.Str.{bytes_eq}
-use Rattle.hex.specs.Hex.{encode_upper}
 use Rattle.reason.specs.declared.Reason.TheVariants.{DoesNotFit}
 use Rattle.integer.specs.Integer.{kept_of}
 use Rattle.lexer.specs.declared.fault.BadLine.{BadLine}
@@ -18,12 +17,12 @@ use Rattle.tlv.specs.Faults.{lifted, of_payload, of_reason}
 use Rattle.tlv.specs.Grammar.{verdict}
 use Rattle.tlv.specs.Header.{short_header}
 use Rattle.tlv_shortest.specs.Shortest.{shortest_form}
-use Rattle.session.specs.Printed.{fault_text}
+use Rattle.session.specs.Printed.{fault_text, hex_text}
 use Rattle.session.specs.Listing.{listing}
 
 -- the word for a payload in shortest form, or its shortest form
 abbrev pub form_text : List ℕ → List ℕ
-form_text bs = cond (bytes_eq (shortest_form bs) bs) (codes "shortest") (encode_upper (shortest_form bs))
+form_text bs = cond (bytes_eq (shortest_form bs) bs) (codes "shortest") (hex_text (shortest_form bs))
 
 -- the line of a well-formed payload: its length, and its form
 abbrev pub summary_text : List ℕ → List ℕ
@@ -43,11 +42,11 @@ check_text bs = verdict_text bs (lifted of_payload (verdict bs))
 
 -- `header`: the shortest header for a kind, an identifier and a length
 abbrev pub header_text : Kind → ℕ → ℕ → List ℕ
-header_text k id n = cond (nat_lt n 16777216) (encode_upper (short_header k id n) ++ (10 ∷ [])) (fault_text (of_reason DoesNotFit))
+header_text k id n = cond (nat_lt n 16777216) (hex_text (short_header k id n) ++ (10 ∷ [])) (fault_text (of_reason DoesNotFit))
 
 -- `integer`: a number as it is kept
 abbrev pub integer_text : ℤ → List ℕ
-integer_text z = encode_upper (kept_of z) ++ (10 ∷ [])
+integer_text z = hex_text (kept_of z) ++ (10 ∷ [])
 
 abbrev pub part_text : List ℕ → List ℕ
 part_text [] = []

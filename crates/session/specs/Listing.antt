@@ -2,17 +2,17 @@
 use Rattle.std.specs.Prelude.{ℕ, zero, suc, ◌-◌, ◌*◌, Bool, cond, ◌&&◌, List, [], ◌∷◌, ◌++◌, replicate, ℤ, Some, None, codes, decimal, Option, is_some, nat_le, nat_lt}
 use Rattle.std.specs.Fmt.{signed_decimal}
 use Rattle.std.specs.List.{flat_map, list_all}
-use Rattle.hex.specs.Hex.{encode_upper}
 use Rattle.integer.specs.Integer.{number_of}
 use Rattle.tlv.specs.declared.entries.Entry.{Entry}
 use Rattle.tlv.specs.Entries.{entries, value_of}
 use Rattle.tlv.specs.Grammar.{within}
 use Rattle.tlv.specs.Wording.{kind_text}
+use Rattle.session.specs.Printed.{hex_text}
 
 -- bytes in hexadecimal, a dash for none
 abbrev pub bytes_text : List ℕ → List ℕ
 bytes_text [] = codes "-"
-bytes_text (b ∷ bs) = encode_upper (b ∷ bs)
+bytes_text (b ∷ bs) = hex_text (b ∷ bs)
 
 -- the number that a value of 1, 2, 4 or 8 bytes stands for
 abbrev pub number_text : Option ℤ → List ℕ

@@ -5,7 +5,7 @@ ghost use Rattle.session.specs.Printed.{Wrote};
 ghost use Rattle.session.specs.Answers.{form_text, summary_text, check_text, header_text, integer_text, bad_text};
 
 use crate::listing::put_entries;
-use crate::text::{Append, put_hex};
+use crate::text::{Append, hex_digits, put_hex};
 use integer::KeptInteger;
 use lexer::BadLine;
 use std::alloc::{AllocError, Global};
@@ -23,7 +23,7 @@ fn form_of(heap: Global, payload: &[u8]) -> Result<String, AllocError>
     let mut form = [0u8; 4096];
     match rewrite(payload, &mut form) {
         Ok(None) => "shortest".to_string(heap),
-        Ok(Some(len)) => hex::encode_upper(heap, &form[..len]),
+        Ok(Some(len)) => hex_digits(heap, &form[..len]),
         Err(_) => unreachable!(),
     }
 }

@@ -1,8 +1,8 @@
-ghost use Rattle.std.specs.Prelude.{IfSome, List, ℕ};
-ghost use Rattle.hex.specs.Hex.{encode_upper};
-ghost use Rattle.session.specs.Printed.{Wrote};
+ghost use Rattle.std.specs.Prelude.{◌≡◌, IfOk, IfSome, List, ℕ};
+ghost use Rattle.std.specs.String.{string_bytes};
+ghost use Rattle.session.specs.Printed.{Wrote, hex_text};
 
-use std::alloc::AllocError;
+use std::alloc::{AllocError, Global};
 use std::fmt::Display;
 
 /// `write!` to bytes: behind what stands there, and with want of memory as the only error, which `io::Write`
@@ -24,9 +24,16 @@ impl Append for Vec<u8> {
 }
 
 /// Bytes as pairs of hexadecimal digits.
-pub fn put_hex(out: &mut Vec<u8>, bytes: &[u8]) -> Result<(), AllocError>
-    ensures { Wrote out.old.items result (encode_upper bytes.now) out.new.items }
+#[tactic(auto, using(crate::proofs::Digits::digits_told))]
+pub fn hex_digits(heap: Global, bytes: &[u8]) -> Result<String, AllocError>
+    ensures { IfOk result (λ text. string_bytes text ≡ hex_text bytes.now) }
 {
-    let digits = hex::encode_upper(*out.allocator(), bytes)?;
+    hex::encode_upper(heap, bytes)
+}
+
+pub fn put_hex(out: &mut Vec<u8>, bytes: &[u8]) -> Result<(), AllocError>
+    ensures { Wrote out.old.items result (hex_text bytes.now) out.new.items }
+{
+    let digits = hex_digits(*out.allocator(), bytes)?;
     out.extend_from_slice(digits.as_bytes())
 }

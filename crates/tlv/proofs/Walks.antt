@@ -1,11 +1,15 @@
 -- Walking the entries of a container, one by one.
-use Rattle.std.proofs.Common.{◌≡◌, ℕ, zero, suc, ◌+◌, ◌-◌, ◌≤◌, List, [], ◌∷◌, length, Some, None, sym, refl, ap, ◌∙◌, arith}
+use Rattle.std.proofs.Common.{◌≡◌, ℕ, zero, suc, ◌+◌, ◌-◌, ◌^◌, ◌<◌, ◌≤◌, List, [], ◌∷◌, length, Option, Some, None, sym, refl, ap, ◌∙◌, arith}
 use Rattle.std.proofs.lemmas.Bool.Decides.{nat_tests}
 use Rattle.std.specs.List.{between}
 use Rattle.tlv.specs.declared.header.Header.{Header}
 use Rattle.tlv.specs.declared.entries.Entry.{Entry}
 use Rattle.tlv.specs.Header.{read_header}
 use Rattle.tlv.specs.Entries.{placed_at, entry_at, chained, entries_by, entries, Located}
+
+-- A header that is read has two bytes or more.
+pub sized_head : (xs : List ℕ) (h : Header) → read_header xs ≡ Some h → 2 ≤ h.size
+sized_head xs h e = grind (arith, nat_tests)
 
 -- An entry that was read lies in its container, and its header has two bytes or more.
 pub entry_known : (bs : List ℕ) (at end : ℕ) (e : Entry) → entry_at bs at end ≡ Some e → Located bs at end e
@@ -59,6 +63,23 @@ entries-more bs at end e p = entries_step bs at end ∙ ap (chained (λ next. en
 
 pub entries_none : (bs : List ℕ) (at end : ℕ) → None ≡ entry_at bs at end → entries bs at end ≡ []
 entries_none bs at end p = entries_step bs at end ∙ ap (chained (λ next. entries bs next end)) (sym p)
+
+chained_few : (n : ℕ) (go : ℕ → List Entry) → ((next : ℕ) → length (go next) ≤ n) → (o : Option Entry) → length (chained go o) ≤ suc n
+chained_few n go h None = omega arith
+chained_few n go h (Some e) = omega (arith, h e.to)
+
+by_few : (n : ℕ) (bs : List ℕ) (at end : ℕ) → length (entries_by n bs at end) ≤ n
+unfolding entries_by
+by_few zero bs at end = omega arith
+by_few (suc n) bs at end = chained_few n (λ next. entries_by n bs next end) (λ next. by_few n bs next end) (entry_at bs at end)
+
+-- no more of them than the container has bytes
+entries_few : (bs : List ℕ) (at end : ℕ) → length (entries bs at end) ≤ end - at
+unfolding entries
+entries_few bs at end = by_few (end - at) bs at end
+
+pub few_entries : (bs : List ℕ) (at end : ℕ) → end < 2 ^ 64 → length (entries bs at end) < 2 ^ 64
+few_entries bs at end h = omega (arith, entries_few bs at end)
 
 -- what one call of `next` finds
 pub ruleset walking = (entries-more, entries_none)

@@ -1,7 +1,5 @@
-ghost use Rattle.std.specs.Prelude.{◌≡◌, length};
-ghost use Rattle.std.specs.Iterator.{item_count};
+ghost use Rattle.std.specs.Prelude.{◌≡◌, ◌^◌, ◌<◌, length};
 ghost use Rattle.tlv.specs.Entries.{entries, value_of};
-ghost use Rattle.tlv.specs.Walk.{Steps, entries_left, walked};
 
 use crate::entries::{Entry, entry_at};
 
@@ -11,10 +9,15 @@ pub struct Entries<'a> {
     bytes: &'a [u8],
     at: usize,
     end: usize,
+    // So they can be counted, and what each of them adds summed up.
+    ghost few: { length (entries bytes.now at end) < 2 ^ 64 },
 }
 
 impl<'a> Entries<'a> {
+    ghost use Rattle.tlv.specs.Walk.{entries_left, walked};
+
     // The entries that lie from `at` to `end`.
+    #[tactic(auto, using(crate::proofs::Walks::few_entries))]
     pub(crate) fn between(bytes: &'a [u8], at: usize, end: usize) -> Entries<'a>
         ensures left { entries_left result ≡ entries bytes.now at end }
         ensures same { walked result ≡ bytes.now }
@@ -48,13 +51,16 @@ impl<'a> Entries<'a> {
 }
 
 impl Iterator for Entries<'_> {
+    ghost use Rattle.std.specs.Iterator.{item_count};
+    ghost use Rattle.tlv.specs.Walk.{Steps, entries_left};
+
     type Item = Entry;
 
     ghost next_gives = { Steps };
 
     ghost remaining = { item_count entries_left };
 
-    #[tactic(auto, using(crate::proofs::Walks::walking))]
+    #[tactic(auto, using(crate::proofs::Walks::walking, crate::proofs::Walks::few_entries))]
     fn next(&mut self) -> Option<Entry> {
         let e = entry_at(self.bytes, self.at, self.end)?;
         self.at = e.to;

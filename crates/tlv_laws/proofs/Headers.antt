@@ -43,6 +43,16 @@ header_same [] ys h e = cc
 header_same (t ∷ []) ys h e = cc
 header_same (t ∷ i ∷ xs) ys h e = header_by t i xs ys h (eqb (t / 32 % 2) 0) refl e
 
+-- Its bytes are all there.
+length_whole : (t id used : ℕ) (xs : List ℕ) (h : Header) → read_length t id used xs ≡ Some h → h.size ≤ used + length xs
+length_whole t id used xs h e = grind (arith, nat_tests, number_none)
+
+pub header_whole : (xs : List ℕ) (h : Header) → read_header xs ≡ Some h → h.size ≤ length xs
+header_whole [] h e = cc
+header_whole (t ∷ []) h e = cc
+header_whole (t ∷ i ∷ []) h e = grind (arith, nat_tests, length_whole)
+header_whole (t ∷ i ∷ u ∷ xs) h e = grind (arith, nat_tests, length_whole)
+
 -- No form of a length field is shorter than the shortest,
 least_by : (c t id used : ℕ) (xs : List ℕ) (h : Header) → t / 8 % 4 ≡ c → Bytes xs
     → headed t id (used + t / 8 % 4) (cond (eqb c 0) (Some (t % 8)) (big_endian c xs 0)) ≡ Some h

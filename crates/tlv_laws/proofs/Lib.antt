@@ -2,6 +2,7 @@ pub mod Bytes
 pub mod Shorts
 pub mod Headers
 pub mod Regions
+pub mod Lengths
 pub mod Readings
 pub mod Filled
 pub mod Back

@@ -23,5 +23,11 @@ pub fn put_number(out: &mut [u8], at: usize, number: usize, size: usize) -> usiz
     ensures ends { result ≡ at + size }
     ensures writes { out.new ≡ written out.old at (bytes_high_first size number) }
 {
-    put(out, at, &number.to_be_bytes()[8 - size..])
+    // One and two bytes are what nearly every header takes: as arrays they are stored, and not copied.
+    match number.to_be_bytes() {
+        [.., low] if size == 1 => put(out, at, &[low]),
+        [.., high, low] if size == 2 => put(out, at, &[high, low]),
+        _ if size == 0 => at,
+        bytes => put(out, at, &bytes[8 - size..]),
+    }
 }
