@@ -1,5 +1,5 @@
 -- Control characters, told by the bytes of a text.
-use Rattle.std.proofs.Common.{◌≡◌, ℕ, ◌+◌, ◌/◌, ◌%◌, ◌<◌, ◌≤◌, ◌≢◌, ltb, true, ◌&&◌, List, [], ◌∷◌, ◌++◌, refl, sym, ap, ◌∙◌, arith}
+use Rattle.std.proofs.Common.{◌≡◌, ℕ, ◌+◌, ◌/◌, ◌%◌, ◌<◌, ◌≤◌, ◌≢◌, ltb, Bool, true, false, ◌&&◌, List, [], ◌∷◌, ◌++◌, Decides, IsUtf8, refl, sym, ap, ◌∙◌, arith}
 use Rattle.std.specs.Char.{encode_utf8}
 use Rattle.std.specs.List.{list_all}
 use Rattle.std.specs.Str.{chars, encode_utf8_all}
@@ -62,8 +62,13 @@ plain_text : (p : ℕ) (cs : List ℕ) → p ≢ 194 → plain_from p (encode_ut
 plain_text p [] n = refl
 plain_text p (c ∷ cs) n = let t = tells p c n in t.says (encode_utf8_all cs) ∙ ap (λ b. plain c && b) (plain_text t.last cs t.other)
 
--- So a text has no control character among its characters either.
-pub plain_characters : (line : List ℕ) → Text line → list_all plain (chars line) ≡ true
-plain_characters line t =
-    let u = t.0 in
-    ap (λ bs. list_all plain (chars bs)) (sym u.1.1) ∙ ap (list_all plain) (chars-encodes u.0 u.1.0) ∙ sym (plain_text 0 u.0 (λ z. omega arith)) ∙ ap (plain_from 0) u.1.1 ∙ t.1
+-- So the bytes of a text tell of its characters.
+pub plain_told : (line : List ℕ) → IsUtf8 line → plain_from 0 line ≡ list_all plain (chars line)
+plain_told line u =
+    sym (ap (λ bs. list_all plain (chars bs)) (sym u.1.1) ∙ ap (list_all plain) (chars-encodes u.0 u.1.0) ∙ sym (plain_text 0 u.0 (λ z. omega arith)) ∙ ap (plain_from 0) u.1.1)
+
+pub text_told : (line : List ℕ) (r : Bool) → IsUtf8 line → r ≡ list_all plain (chars line) → Decides r (Text line)
+text_told line r u e = let s : r ≡ plain_from 0 line = e ∙ sym (plain_told line u) in ((λ t. (u, sym s ∙ t)), λ t. s ∙ t.1)
+
+pub not_told : (line : List ℕ) → ¬ IsUtf8 line → Decides false (Text line)
+not_told line u = ((λ e. absurd (cc)), λ t. absurd (u t.0))

@@ -1,4 +1,4 @@
-ghost use Rattle.std.specs.Prelude.{◌≡◌, true, false, take, chars, Decides};
+ghost use Rattle.std.specs.Prelude.{◌≡◌, false, take, chars, Decides, IsUtf8};
 ghost use Rattle.std.specs.List.{list_all};
 ghost use Rattle.lexer.specs.Lines.{comment_at, trimmed_of, body_of, plain, plain_after, plain_from, Text};
 
@@ -68,10 +68,10 @@ fn is_plain(line: &[u8]) -> bool
 }
 
 /// Whether the bytes are text: UTF-8, with no control character but tab and carriage return.
-#[tactic(auto, using(crate::proofs::Characters::plain_characters))]
+#[tactic(auto, using(crate::proofs::Characters::plain_told))]
 pub fn is_text(line: &[u8]) -> bool
     ensures says { Decides result (Text line.now) }
-    ensures plain { result ≡ true → list_all plain (chars line.now) ≡ true }
+    ensures characters { IsUtf8 line.now → result ≡ list_all plain (chars line.now) }
 {
     is_plain(line) && std::str::from_utf8(line).is_ok()
 }
