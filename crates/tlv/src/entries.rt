@@ -32,17 +32,18 @@ pub fn entry_at(bytes: &[u8], at: usize, end: usize) -> Option<Entry>
     ensures says { result ≡ entry_at bytes.now at end }
     ensures known { IfSome result (Located bytes.now at end) }
 {
-    let h = read_header(bytes.get(at..end)?)?;
-    let from = at.checked_add(h.size)?;
-    let to = from.checked_add(h.len)?;
-    if to > end {
+    let left = bytes.get(at..end)?;
+    let h = read_header(left)?;
+    // Asked of what is left and not of `to`, so that the next entry's place need not wait for the answer.
+    if h.size > left.len().checked_sub(h.len)? {
         return None;
     }
+    let from = at + h.size;
     Some(Entry {
         kind: h.kind,
         id: h.id,
         place: at,
         from,
-        to,
+        to: from + h.len,
     })
 }
